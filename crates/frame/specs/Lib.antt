@@ -1,0 +1,4 @@
+pub mod Fields
+pub mod Ops
+pub mod Fault
+pub mod Laws

@@ -1,0 +1,5 @@
+pub mod Frames
+pub mod Walk
+pub mod Accepted
+pub mod Cut
+pub mod Unique

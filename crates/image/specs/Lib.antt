@@ -1,0 +1,5 @@
+pub mod Limits
+pub mod Layout
+pub mod Judge
+pub mod First
+pub mod Steps

@@ -1,0 +1,235 @@
+// Design images as tables of frames: their limits, and the judge that finds a table's first fault.
+use frame::Counts;
+use frame::Fault;
+use frame::Frame;
+use frame::Kind;
+ghost use mathlib.Core.Path.{_≡_};
+ghost use Prim.Native.Nat.{_+_};
+ghost use lib.ListN.{length};
+ghost use Rattle.image.specs.Layout.{countsOf, kindOf};
+ghost use Rattle.image.specs.Judge.{said, headerFits, bodyFits, judged};
+ghost use Rattle.image.specs.Steps.{rest, Passed, Begun, Headed, Stands};
+
+// The type of design images, which owns their limits.
+pub struct Image;
+
+impl Image {
+    pub const THREADS: u8 = 16;
+
+    pub const EVENTS: u8 = 32;
+
+    pub const UPDATES: u8 = 16;
+
+    pub const CELLS: u32 = 256;
+
+    pub const INSTRUCTIONS: usize = 1024;
+
+    pub const LINES: usize = 1058;
+}
+
+// What the judge, the reader and the writer answer, with the line of the first fault or the count that was done.
+pub enum Verdict {
+    Done(usize),
+    Line(usize),
+    Header,
+    Body(usize),
+    Op(usize),
+    Field(usize),
+    Short(usize),
+    Extra(usize),
+    Room,
+}
+
+impl Verdict {
+    pub fn number(self) -> u8
+        ensures { λ r. ⌜ r ≡ said self .number ⌝ }
+    {
+        match self {
+            Verdict::Done(_) => 0,
+            Verdict::Line(_) => 1,
+            Verdict::Header => 2,
+            Verdict::Body(_) => 3,
+            Verdict::Op(_) => 4,
+            Verdict::Field(_) => 5,
+            Verdict::Short(_) => 6,
+            Verdict::Extra(_) => 7,
+            Verdict::Room => 8,
+        }
+    }
+
+    pub fn line(self) -> usize
+        ensures { λ r. ⌜ r ≡ said self .line ⌝ }
+    {
+        match self {
+            Verdict::Done(n) => n,
+            Verdict::Line(i) => i,
+            Verdict::Header => 0,
+            Verdict::Body(i) => i,
+            Verdict::Op(i) => i,
+            Verdict::Field(i) => i,
+            Verdict::Short(i) => i,
+            Verdict::Extra(i) => i,
+            Verdict::Room => 0,
+        }
+    }
+}
+
+// The counts of a header.
+fn counts_of(f: Frame) -> Counts
+    ensures { λ r. ⌜ r ≡ countsOf f ⌝ }
+{
+    Counts {
+        threads: f.d,
+        events: f.a,
+        updates: f.b,
+        cells: f.imm,
+    }
+}
+
+fn header_fits(f: Frame) -> bool
+    ensures { λ r. ⌜ r ≡ headerFits f ⌝ }
+{
+    if f.op != 0xa0 {
+        return false;
+    }
+    if Image::THREADS < f.d {
+        return false;
+    }
+    if Image::EVENTS < f.a {
+        return false;
+    }
+    if Image::UPDATES < f.b {
+        return false;
+    }
+    if f.imm < 1 {
+        return false;
+    }
+    f.imm <= Image::CELLS
+}
+
+fn body_fits(f: Frame) -> bool
+    ensures { λ r. ⌜ r ≡ bodyFits f ⌝ }
+{
+    if f.op != 0xa1 {
+        return false;
+    }
+    if f.d != 0 {
+        return false;
+    }
+    if f.a != 0 {
+        return false;
+    }
+    f.b == 0
+}
+
+// The kind of body k.
+fn kind_of(c: Counts, k: usize) -> Kind
+    ensures { λ r. ⌜ r ≡ kindOf c k ⌝ }
+{
+    if k == 0 {
+        return Kind::Main;
+    }
+    if k - 1 < c.threads as usize {
+        return Kind::Thread;
+    }
+    Kind::Update
+}
+
+// What looking at a body's instructions found.
+enum Checked {
+    Fine,
+    Wrong(Verdict),
+}
+
+// The n instructions of body k, from the line at on.
+fn judge_body(table: &[u64], c: Counts, k: usize, n: u32, at: usize) -> Checked
+    requires { ⌜ Stands (now table) c k n at ⌝ }
+    ensures { λ r. ⌜ Passed (now (table .entry)) at n r ⌝ }
+{
+    let kind = kind_of(c, k);
+    let end = at + n as usize;
+    let mut line = at;
+    while line < end {
+        if table.len() <= line {
+            return Checked::Wrong(Verdict::Short(line));
+        }
+        let f = frame::decode(table[line]);
+        match frame::fault_of(c, kind, n, f) {
+            Fault::Nothing => {}
+            Fault::Op => {
+                return Checked::Wrong(Verdict::Op(line));
+            }
+            Fault::Field => {
+                return Checked::Wrong(Verdict::Field(line));
+            }
+        }
+        line = line + 1;
+    }
+    Checked::Fine
+}
+
+// The instructions of all bodies, and the table's end.
+fn judge_instructions(table: &[u64], c: Counts, bodies: usize) -> Verdict
+    requires { ⌜ Headed (now table) c bodies ⌝ }
+    ensures { λ r. ⌜ said r ≡ rest (now (table .entry)) (1 + bodies) ⌝ }
+{
+    let mut line = 1 + bodies;
+    let mut k: usize = 0;
+    while k < bodies {
+        let f = frame::decode(table[k + 1]);
+        let n = f.imm;
+        let found = judge_body(table, c, k, n, line);
+        match found {
+            Checked::Wrong(v) => {
+                return v;
+            }
+            Checked::Fine => {}
+        }
+        line = line + n as usize;
+        k = k + 1;
+    }
+    if line < table.len() {
+        return Verdict::Extra(line);
+    }
+    Verdict::Done(line)
+}
+
+// The body frames, and all that follows.
+fn judge_bodies(table: &[u64], c: Counts) -> Verdict
+    requires { ⌜ Begun (now table) c ⌝ }
+    ensures { λ r. ⌜ said r ≡ rest (now (table .entry)) 1 ⌝ }
+{
+    let bodies = 1 + c.threads as usize + c.updates as usize;
+    let mut total: usize = 0;
+    let mut k: usize = 0;
+    while k < bodies {
+        let line = k + 1;
+        if table.len() <= line {
+            return Verdict::Short(line);
+        }
+        let f = frame::decode(table[line]);
+        if !body_fits(f) {
+            return Verdict::Body(line);
+        }
+        total = total + f.imm as usize;
+        if Image::INSTRUCTIONS < total {
+            return Verdict::Body(line);
+        }
+        k = line;
+    }
+    judge_instructions(table, c, bodies)
+}
+
+// The first fault of a table, or the count of its frames.
+pub fn judge(table: &[u64]) -> Verdict
+    ensures { λ r. ⌜ said r ≡ judged (now (table .entry)) ⌝ }
+{
+    if table.len() == 0 {
+        return Verdict::Short(0);
+    }
+    let h = frame::decode(table[0]);
+    if !header_fits(h) {
+        return Verdict::Header;
+    }
+    judge_bodies(table, counts_of(h))
+}

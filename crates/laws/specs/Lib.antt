@@ -1,0 +1,5 @@
+-- Definitions and laws that know nothing of images or kernels.
+pub mod Choice
+pub mod Lists
+pub mod Span
+pub mod Unique

@@ -1,0 +1,5 @@
+pub mod Lines
+pub mod Texts
+pub mod RoundTrip
+pub mod Cap
+pub mod Whole
