@@ -3,3 +3,4 @@ pub mod Texts
 pub mod RoundTrip
 pub mod Cap
 pub mod Whole
+pub mod Unique
