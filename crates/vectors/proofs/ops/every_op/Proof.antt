@@ -1,0 +1,42 @@
+-- The high digit goes up to 16.
+use Prim.Native.Nat.{_≤_, _-_}
+use borrow.Author.Needs.{needs}
+use Rattle.vectors.proofs.ops.every_op.Statement.{statement}
+use Rattle.vectors.proofs.ops.every_op.Tie as tie
+
+abbrev Inv-loop : tie.InvT-loop
+Inv-loop line high₀ high = high ≤ 16
+
+abbrev μ-loop : tie.MeasureT-loop
+μ-loop line high₀ high = 16 - high
+
+loop-holds : tie.Need-loop-holds Inv-loop μ-loop
+loop-holds c = search needs
+
+sixteen-ops-requires : tie.Need-sixteen-ops-requires Inv-loop μ-loop
+sixteen-ops-requires c κs = search needs
+
+add-high : tie.Need-add-high Inv-loop μ-loop
+add-high c = search needs
+
+loop-less : tie.Need-loop-less Inv-loop μ-loop
+loop-less c = search needs
+
+loop-again : tie.Need-loop-again Inv-loop μ-loop
+loop-again c = search needs
+
+returns : tie.Need-returns Inv-loop μ-loop
+returns c = search needs
+
+pub every-op-spec : {M : Type 1} → statement M
+every-op-spec =
+    tie.close
+    (tie.spec
+    Inv-loop
+    μ-loop
+    loop-holds
+    sixteen-ops-requires
+    add-high
+    loop-less
+    loop-again
+    returns)
