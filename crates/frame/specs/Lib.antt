@@ -2,3 +2,4 @@ pub mod Fields
 pub mod Ops
 pub mod Fault
 pub mod Laws
+pub mod Agree

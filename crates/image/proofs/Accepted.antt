@@ -47,7 +47,7 @@ module _ (fs : List ℕ) (nf : (i : ℕ) → i ≤ bodies fs → fault fs i ≡ 
   unfolding bodies
   some-body = omega arith
 
-  few-instructions : lengths fs (bodies fs) ≤ mostInstructions
+  pub few-instructions : lengths fs (bodies fs) ≤ mostInstructions
   unfolding bodyFault
   few-instructions =
       let o : 0 < bodies fs = some-body in

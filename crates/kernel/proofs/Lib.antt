@@ -1,0 +1,16 @@
+pub mod Search
+pub mod Fields
+pub mod Served
+pub mod Branch
+pub mod Laws
+pub mod Fits
+pub mod Measure
+pub mod Bound
+pub mod Enough
+pub mod Words
+pub mod Due
+pub mod Ahead
+pub mod Serving
+pub mod Rightly
+pub mod Comes
+pub mod Demand

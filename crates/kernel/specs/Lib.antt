@@ -1,0 +1,12 @@
+pub mod Search
+pub mod Design
+pub mod Kernel
+pub mod Pending
+pub mod Effect
+pub mod Machine
+pub mod Step
+pub mod Run
+pub mod Enough
+pub mod Marked
+pub mod Words
+pub mod Demand
