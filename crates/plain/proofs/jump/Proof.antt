@@ -1,0 +1,16 @@
+use Rattle.plain.proofs.Arms.{jump-not, jump-taken}
+use borrow.Author.Needs.{needs}
+use Rattle.plain.proofs.jump.Statement.{statement}
+use Rattle.plain.proofs.jump.Tie as tie
+
+add-t5 : tie.Need-add-t5
+add-t5 c = search needs
+
+returns : tie.Need-returns
+returns c = search (jump-not, jump-taken, needs)
+
+returns-2 : tie.Need-returns-2
+returns-2 c = search (jump-not, jump-taken, needs)
+
+pub jump-spec : {M : Type 1} → statement M
+jump-spec = tie.close (tie.spec add-t5 returns returns-2)
