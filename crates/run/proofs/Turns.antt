@@ -1,0 +1,243 @@
+-- Each turn of the code is some steps of the machine, one at least. Assumes nothing.
+use Prim.Native.Nat.{ℕ, zero, suc, _+_, _-_, _<_, _≤_}
+use mathlib.Core.Path.{_≡_, refl, sym, ap, subst, _∙_}
+use mathlib.Core.Bool.{Bool, true, false, not, _&&_}
+use mathlib.Core.List.{List, [], _∷_, _++_, map}
+use native.Mathlib.Omega.{arith}
+use native.Mathlib.Numerals.{add-one}
+use borrow.Author.Tests.{ltb-true, ltb-false, le-ltb, le-leb, lt-leb, eq-eqb, ne-eqb}
+use lib.Dec.{eqb, ltb, leb}
+use lib.ListN.{length, getD, set, length-append}
+use lib.Seq.{set-getD}
+use Rattle.laws.specs.Choice.{if_then_else_, and-left}
+use Rattle.frame.specs.Ops.{meaningOf}
+use Rattle.image.specs.Limits.{mostCells}
+use Rattle.image.specs.Layout.{frame, counts, bodies, len, lengths, first, due as dueFrames}
+use Rattle.image.specs.Judge.{fault, judged}
+use Rattle.image.proofs.Walk.{lengths-grow, first-next, first-grows, due-above}
+use Rattle.image.proofs.Accepted.{accepted-has, few-instructions}
+use Rattle.kernel.specs.Design.{Table, Body, main, thread, update, threads, updates, number, cells}
+use Rattle.kernel.specs.Kernel.{Kernel, Stage, ending, ended, finished, after, kernel}
+use Rattle.kernel.specs.Pending.{runnable, isRequested}
+use Rattle.kernel.specs.Effect.{stops}
+use Rattle.kernel.specs.Machine.{Job, Control as Place, running, updatePhase, deltaPhase, turn as turnPlace, evaluation, timePhase, over, Machine, State, out, goTo}
+use Rattle.kernel.specs.Step.{perform, phaseNumber as endNumber, advance, step, steps}
+use Rattle.kernel.proofs.Branch.{due, paid}
+use Rattle.kernel.proofs.Fits.{Fits, fits-step}
+use Rattle.kernel.specs.Enough.{Over as IsOver}
+use Rattle.kernel.proofs.Enough.{stays}
+use Rattle.kernel.proofs.Laws.{steps-one, steps-last, step-main-ends, step-thread-ends, step-update-ends}
+use Rattle.phases.specs.Codes.{requestedOf}
+use Rattle.phases.specs.Phases.{changed, endCode, resumedCode}
+use Rattle.phases.specs.Laws.{ends-for-good}
+use Rattle.plain.specs.declared.End.{End}
+use Rattle.plain.specs.declared.End.the-variants.{Ended, Left, Stopped}
+use Rattle.plain.specs.Plain.{isPlain, Out, able, plain, runPlain}
+use Rattle.run.specs.declared.Control.{Control}
+use Rattle.run.specs.declared.Control.the-variants.{Runs, UpdatePhase, DeltaPhase, Turn, Evaluation, TimePhase, Over}
+use Rattle.run.specs.declared.Now.{Now}
+use Rattle.run.specs.Stands.{Lists, lists, bodyOf, placeOf, stageOf, Shows, Stands}
+use Rattle.run.specs.Code.{Code, code, goesTo, withLeft, phaseNumber, endsTo, endsIn, obeyed, completed, ranTo, afterPlain, bodyRun, turnFrom, turn}
+use Rattle.run.proofs.Shows.{shows-mode, shows-requests}
+use Rattle.run.proofs.Moves.{goes-to, evaluates, turns, serves-delta, enters-update, times}
+use Rattle.run.proofs.Bodies.{number-of, place-is, paid-is, Ending, PlainRan, ran-plain}
+use Rattle.run.proofs.Obeys.{Follows, follows-by}
+
+abbrev pub StandsAt : (j : Job) (rest : List ℕ) (s : State) → Code → Type 0
+StandsAt j rest s c = Stands j rest s (c .now) (c .lists) (c .places) (c .cells)
+
+-- one step on, or more
+pub record Reaches (j : Job) (rest : List ℕ) (s : State) (c : Code) : Type 0 where
+  pub more : ℕ
+  pub stands : StandsAt j rest (steps j (suc more) s) c
+
+reaches-one : (j : Job) (rest : List ℕ) (s : State) (c : Code) → StandsAt j rest (step j s) c → Reaches j rest s c
+reaches-one j rest s c h = record { more = 0; stands = subst (λ (x : State). StandsAt j rest x c) (sym (steps-one j s)) h }
+
+-- A body's end ----------------------------------------------------------------------------------------------------
+
+module _ (j : Job) (rest : List ℕ) (s : State) (b : ℕ) (n : Now) (l : Lists) (ps cs : List ℕ) (st : Stands j rest s (goesTo (Runs b) n) l ps cs) where
+  abbrev t : Table
+  t = j .table
+
+  abbrev T : ℕ
+  T = threads t
+
+  abbrev k : Kernel
+  k = kernel (s .history)
+
+  abbrev m : Machine
+  m = s .machine
+
+  number-said : (v : ℕ) → phaseNumber v ≡ endNumber j s (stageOf v)
+  unfolding stageOf
+  number-said zero = refl
+  number-said (suc zero) = refl
+  number-said (suc (suc zero)) = refl
+  number-said (suc (suc (suc v))) = refl
+
+  not-asked : requestedOf 0 ≡ false
+  unfolding requestedOf
+  not-asked = refl
+
+  main-ends : m .control ≡ running main → due j s main ≡ false → Stands j rest (step j s) (goesTo (Over (phaseNumber (n .stage)) 0xff 0) n) l ps cs
+  main-ends e d =
+      goes-to j rest s (goesTo (Runs b) n) l ps cs st (Over (phaseNumber (n .stage)) 0xff 0) (over (endNumber j s (k .stage)) 0xff 0)
+      (ap (λ (x : ℕ). over x 0xff 0) (number-said (n .stage) ∙ ap (endNumber j s) (st .counts .stage))) (step-main-ends j s e d)
+
+  thread-ends : (q : ℕ) → m .control ≡ running (thread q) → due j s (thread q) ≡ false → Stands j rest (step j s) (goesTo Evaluation n) (lists (l .pends) (l .waits) (changed endCode q (l .modes)) (l .requests)) ps cs
+  unfolding kernel after
+  thread-ends q e d =
+      let o = st .counts in
+      subst (λ (x : State). Stands j rest x (goesTo Evaluation n) (lists (l .pends) (l .waits) (changed endCode q (l .modes)) (l .requests)) ps cs) (sym (step-thread-ends j s q e d))
+      (record {
+        shows = shows-mode t k l (st .shows) ending q (endCode (getD (l .modes) q 0)) (changed endCode q (l .modes)) refl (λ c. ends-for-good c (getD (l .modes) q 0));
+        counts = record { control = refl; time = o .time; limit = o .limit; stage = o .stage; instructions = o .instructions; choices = o .choices; inputs = o .inputs; places = o .places; all-places = o .all-places; cells = o .cells; all-cells = o .all-cells };
+        fits = tt;
+      })
+
+  update-ends : (u : ℕ) → m .control ≡ running (update u) → due j s (update u) ≡ false → Stands j rest (step j s) (goesTo UpdatePhase n) (lists (l .pends) (l .waits) (l .modes) (set (l .requests) u 0)) ps cs
+  unfolding kernel after
+  update-ends u e d =
+      let o = st .counts in
+      subst (λ (x : State). Stands j rest x (goesTo UpdatePhase n) (lists (l .pends) (l .waits) (l .modes) (set (l .requests) u 0)) ps cs) (sym (step-update-ends j s u e d))
+      (record {
+        shows = shows-requests t k l (st .shows) false u 0 (set (l .requests) u 0) refl not-asked;
+        counts = record { control = refl; time = o .time; limit = o .limit; stage = o .stage; instructions = o .instructions; choices = o .choices; inputs = o .inputs; places = o .places; all-places = o .all-places; cells = o .cells; all-cells = o .all-cells };
+        fits = tt;
+      })
+
+  pub body-ends : due j s (bodyOf T b) ≡ false → Stands j rest (step j s) (endsTo T b (goesTo (Runs b) n)) (endsIn T b l) ps cs
+  unfolding endsTo endsIn bodyOf
+  body-ends d = by b (sym (st .counts .control)) d
+    where
+      by-kind : (q : ℕ) (z : Bool) → ltb q T ≡ z → m .control ≡ running (if z then thread q else update (q - T)) → due j s (if z then thread q else update (q - T)) ≡ false → Stands j rest (step j s) (if leb (suc q) T then goesTo Evaluation n else goesTo UpdatePhase n) (if leb (suc q) T then lists (l .pends) (l .waits) (changed endCode (suc q - 1) (l .modes)) (l .requests) else lists (l .pends) (l .waits) (l .modes) (set (l .requests) (suc q - 1 - T) 0)) ps cs
+      by-kind q true r e d =
+          let v : suc q - 1 ≡ q = omega arith in
+          rw (le-leb (suc q) T (ltb-true q T r), v) (thread-ends q e d)
+      by-kind q false r e d =
+          let v : suc q - 1 ≡ q = omega arith in
+          rw (lt-leb (suc q) T (omega (arith, ltb-false q T r)), v) (update-ends (q - T) e d)
+
+      by : (b : ℕ) → m .control ≡ running (bodyOf T b) → due j s (bodyOf T b) ≡ false → Stands j rest (step j s) (if eqb b 0 then goesTo (Over (phaseNumber (n .stage)) 0xff 0) n else (if leb b T then goesTo Evaluation n else goesTo UpdatePhase n)) (if eqb b 0 then l else (if leb b T then lists (l .pends) (l .waits) (changed endCode (b - 1) (l .modes)) (l .requests) else lists (l .pends) (l .waits) (l .modes) (set (l .requests) (b - 1 - T) 0))) ps cs
+      by zero e d = main-ends e d
+      by (suc q) e d = rw (ne-eqb (suc q) 0 (λ z. omega arith)) (by-kind q (ltb q T) refl e d)
+
+  -- the body that runs is one of the design's
+  pub body-there : b < bodies t
+  unfolding bodies bodyOf
+  body-there = by b (subst (Fits t k) (sym (st .counts .control)) (st .fits))
+    where
+      by-kind : (q : ℕ) (z : Bool) → ltb q T ≡ z → Fits t k (running (if z then thread q else update (q - T))) → suc q < 1 + T + updates t
+      by-kind q true r f = omega (arith, ltb-true q T r)
+      by-kind q false r f = omega (arith, ltb-true (q - T) (updates t) (and-left (ltb (q - T) (updates t)) (k .requested (q - T)) f), ltb-false q T r)
+
+      by : (b : ℕ) → Fits t k (running (bodyOf T b)) → b < 1 + T + updates t
+      by zero f = omega arith
+      by (suc q) f = by-kind q (ltb q T) refl f
+
+-- A body's turn ---------------------------------------------------------------------------------------------------
+
+-- what holds all along: the table is accepted, the line of each body's first instruction is at hand, and there are as many cells as a field can name
+pub record Given (j : Job) (rest : List ℕ) (firsts : List ℕ) : Type 0 where
+  pub good : judged (j .table) .number ≡ 0
+  pub lines : (k : ℕ) → k ≤ bodies (j .table) → getD firsts k 0 ≡ first (j .table) k
+  pub room : mostCells ≤ cells (j .table) + length rest
+
+module _ (j : Job) (rest firsts : List ℕ) (g : Given j rest firsts) where
+  module _ (b : ℕ) (there : b < bodies (j .table)) where
+    len-is : getD firsts (b + 1) 0 - getD firsts b 0 ≡ len (j .table) b
+    len-is =
+        let e : getD firsts (b + 1) 0 ≡ first (j .table) (suc b) = g .lines (b + 1) (omega arith) ∙ ap (first (j .table)) (add-one b) in
+        let f : getD firsts b 0 ≡ first (j .table) b = g .lines b (omega arith) in
+        omega (arith, first-next (j .table) b)
+
+    in-table : first (j .table) b + len (j .table) b ≤ length (j .table)
+    unfolding dueFrames
+    in-table =
+        omega (arith, accepted-has (j .table) (g .good) .all-due, first-next (j .table) b, first-grows (j .table) (suc b) (bodies (j .table)) there)
+
+    short : len (j .table) b ≤ 1024
+    unfolding lengths
+    short =
+        let a = accepted-has (j .table) (g .good) in
+        let f : (i : ℕ) → i ≤ bodies (j .table) → fault (j .table) i ≡ 0 = λ i h. a .faultless i (omega (arith, a .all-due, due-above (j .table))) in
+        omega (arith, lengths-grow (j .table) (suc b) (bodies (j .table)) there, few-instructions (j .table) f)
+
+    able-is : (cs : List ℕ) → mostCells ≤ length cs → able (j .table) (first (j .table) b) (len (j .table) b) cs ≡ true
+    able-is cs h = rw (le-leb (first (j .table) b + len (j .table) b) (length (j .table)) in-table, le-leb (len (j .table) b) 1024 short, le-leb 256 (length cs) h)
+
+    module _ (s : State) (n : Now) (l : Lists) (ps cs : List ℕ) (st : Stands j rest s (goesTo (Runs b) n) l ps cs) where
+      abbrev tb : Table
+      tb = j .table
+
+      -- where the plain instructions ended in s′
+      module _ (s′ : State) (p x : ℕ) (ds : List ℕ) (sp : Stands j rest s′ (withLeft x (goesTo (Runs b) n)) l (set ps b p) ds) where
+        abbrev now : Now
+        now = withLeft x (goesTo (Runs b) n)
+
+        stopped : (c : ℕ) → step j s′ ≡ advance s′ (perform j s′ (bodyOf (threads tb) b) (stops c)) → StandsAt j rest (step j s′) (ranTo tb (j .inputs) (first tb b) b (Stopped c) p now l (set ps b p) ds)
+        unfolding perform
+        stopped c e =
+            goes-to j rest s′ now l (set ps b p) ds sp (Over c b p) (over c (number tb (bodyOf (threads tb) b)) (s′ .machine .places (number tb (bodyOf (threads tb) b))))
+            (rw (place-is j rest (g .good) b there s′ n l ps ds x p sp, number-of tb b)) e
+
+        lost : {A : Type 0} → false ≡ true → A
+        lost e =
+            let z : _≡_ {A = ℕ} 0 1 = cc in
+            absurd (omega arith)
+
+      -- the instruction that is not plain
+      obeyed-there : (s′ : State) (p x : ℕ) (ds : List ℕ) → Stands j rest s′ (withLeft x (goesTo (Runs b) n)) l (set ps b p) ds → ltb 0 x ≡ true → ltb p (len tb b) ≡ true → isPlain (meaningOf (frame tb (first tb b + p) .op)) ≡ false
+          → StandsAt j rest (step j s′) (ranTo tb (j .inputs) (first tb b) b Left p (withLeft x (goesTo (Runs b) n)) l (set ps b p) ds)
+      unfolding Follows
+      obeyed-there s′ p zero ds sp e h z = lost s′ p zero ds sp (sym (le-ltb 0 0 (omega arith)) ∙ e)
+      obeyed-there s′ p (suc y) ds sp e h z =
+          rw (sp .shows .all-waits) (follows-by j rest (g .good) b there s′ n l ps ds y p sp h (meaningOf (frame tb (first tb b + p) .op)) refl z)
+
+      after-plain : (s′ : State) (e : End) (p x : ℕ) (ds : List ℕ) → Stands j rest s′ (withLeft x (goesTo (Runs b) n)) l (set ps b p) ds → Ending j rest (g .good) b there s′ e p
+          → StandsAt j rest (step j s′) (ranTo tb (j .inputs) (first tb b) b e p (withLeft x (goesTo (Runs b) n)) l (set ps b p) ds)
+      after-plain s′ Ended p x ds sp f = rw (sp .shows .all-waits) (body-ends j rest s′ b (withLeft x n) l (set ps b p) ds sp f)
+      after-plain s′ (Stopped c) p x ds sp f = stopped s′ p x ds sp c f
+      after-plain s′ Left p x ds sp f =
+          obeyed-there s′ p x ds sp (sym (paid-is j rest (g .good) b there s′ n l ps ds x p sp) ∙ f .1) (f .0) (f .2)
+
+      pub body-turn : Reaches j rest s (bodyRun tb (j .inputs) firsts b (code (goesTo (Runs b) n) l ps cs))
+      unfolding bodyRun runPlain
+      body-turn =
+          let o : Out = plain (n .left) tb (first tb b) (len tb b) (getD ps b 0) cs in
+          let start : Stands j rest s (withLeft (n .left) (goesTo (Runs b) n)) l (set ps b (getD ps b 0)) cs = rw (set-getD ps b 0) st in
+          let r : PlainRan j rest (g .good) b there s n l ps o = ran-plain j rest (g .good) b there n l ps (n .left) (getD ps b 0) cs s start in
+          let a : mostCells ≤ length cs = rw (st .counts .cells) (rw (length-append (s .machine .cells) rest, st .counts .all-cells) (g .room)) in
+          rw (len-is, g .lines b (omega arith), able-is cs a)
+          (record { more = r .more; stands = subst (λ (x : State). StandsAt j rest x (afterPlain tb (j .inputs) (first tb b) b o (goesTo (Runs b) n) l ps)) (sym (steps-last j (r .more) s)) (after-plain (steps j (r .more) s) (o .ran .end) (o .ran .place) (o .ran .left) (o .cells) (r .stands) (r .ending)) })
+
+  -- One turn ------------------------------------------------------------------------------------------------------
+
+  pub turn-follows : (s : State) (c : Code) → StandsAt j rest s c → Reaches j rest s (turn (j .table) (j .choices) (j .inputs) firsts c)
+  unfolding turn
+  turn-follows s c st = by (c .now .control) refl
+    where
+      stood : (x : Control) → c .now .control ≡ x → placeOf (threads (j .table)) (c .now .control) ≡ placeOf (threads (j .table)) x
+      stood x e = ap (placeOf (threads (j .table))) e
+
+      -- the code's state with its control written out
+      same : (x : Control) → c .now .control ≡ x → c ≡ code (goesTo x (c .now)) (c .lists) (c .places) (c .cells)
+      same x e = ap (λ (y : Control). code (goesTo y (c .now)) (c .lists) (c .places) (c .cells)) e
+
+      runs-on : (b : ℕ) → StandsAt j rest s (code (goesTo (Runs b) (c .now)) (c .lists) (c .places) (c .cells)) → Reaches j rest s (bodyRun (j .table) (j .inputs) firsts b (code (goesTo (Runs b) (c .now)) (c .lists) (c .places) (c .cells)))
+      runs-on b sp =
+          body-turn b (body-there j rest s b (c .now) (c .lists) (c .places) (c .cells) sp) s (c .now) (c .lists) (c .places) (c .cells) sp
+
+      by : (x : Control) → c .now .control ≡ x → Reaches j rest s (turnFrom (j .table) (j .choices) (j .inputs) firsts c x)
+      by (Runs b) e =
+          subst (λ (d : Code). Reaches j rest s (bodyRun (j .table) (j .inputs) firsts b d)) (sym (same (Runs b) e)) (runs-on b (subst (StandsAt j rest s) (same (Runs b) e) st))
+      by UpdatePhase e =
+          rw (st .shows .all-waits) (reaches-one j rest s _ (enters-update j rest s (c .now) (c .lists) (c .places) (c .cells) st (stood UpdatePhase e)))
+      by DeltaPhase e = reaches-one j rest s _ (serves-delta j rest s (c .now) (c .lists) (c .places) (c .cells) st (stood DeltaPhase e))
+      by Turn e = reaches-one j rest s _ (turns j rest s (c .now) (c .lists) (c .places) (c .cells) st (stood Turn e))
+      by Evaluation e = reaches-one j rest s _ (evaluates j rest s (c .now) (c .lists) (c .places) (c .cells) st (stood Evaluation e))
+      by TimePhase e = reaches-one j rest s _ (times j rest s (c .now) (c .lists) (c .places) (c .cells) st (stood TimePhase e))
+      by (Over k b p) e =
+          reaches-one j rest s c
+          (subst (λ (x : State). StandsAt j rest x c) (sym (stays j s (record { number = k; body = b; place = p; is = sym (st .counts .control) ∙ stood (Over k b p) e }))) st)

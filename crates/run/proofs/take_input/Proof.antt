@@ -1,0 +1,33 @@
+use Rattle.run.proofs.Arms.{took-none, took-nothing, took-some, took-cell}
+use borrow.Author.Needs.{needs}
+use Rattle.run.proofs.take_input.Statement.{statement}
+use Rattle.run.proofs.take_input.Tie as tie
+
+returns : tie.Need-returns
+returns c = (search (took-none, took-some, needs), search (took-nothing, took-cell, needs))
+
+mul-put-cell : tie.Need-mul-put-cell
+mul-put-cell c = search needs
+
+shared-slice-read-put-cell : tie.Need-shared-slice-read-put-cell
+shared-slice-read-put-cell c = search needs
+
+put-cell-requires : tie.Need-put-cell-requires
+put-cell-requires c κs = search needs
+
+same-length : tie.Need-same-length
+same-length c = search needs
+
+returns-2 : tie.Need-returns-2
+returns-2 c = (search (took-none, took-some, needs), search (took-nothing, took-cell, needs))
+
+pub take-input-spec : {M : Type 1} → statement M
+take-input-spec =
+    tie.close
+    (tie.spec
+    returns
+    mul-put-cell
+    shared-slice-read-put-cell
+    put-cell-requires
+    same-length
+    returns-2)
