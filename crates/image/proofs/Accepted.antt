@@ -41,6 +41,29 @@ module _ (fs : List ℕ) (h : fault fs 0 ≡ 0) where
       let g : (leb (frame fs 0 .d) mostThreads ≡ true) × (leb (frame fs 0 .b) mostUpdates ≡ true) = second-fourth (eqb (frame fs 0 .op) 0xa0) _ (leb (frame fs 0 .a) mostEvents) _ (between 1 (frame fs 0 .imm) mostCells) header-good in
       omega (arith, leb-true (frame fs 0 .d) mostThreads (g .0), leb-true (frame fs 0 .b) mostUpdates (g .1))
 
+  pub record Counted : Type 0 where
+    pub threads : frame fs 0 .d ≤ mostThreads
+    pub events : frame fs 0 .a ≤ mostEvents
+    pub updates : frame fs 0 .b ≤ mostUpdates
+    pub cells : frame fs 0 .imm ≤ mostCells
+
+  pub counted : Counted
+  unfolding headerFits
+  counted =
+      let d : Bool = leb (frame fs 0 .d) mostThreads in
+      let a : Bool = leb (frame fs 0 .a) mostEvents in
+      let b : Bool = leb (frame fs 0 .b) mostUpdates in
+      let o : Bool = eqb (frame fs 0 .op) 0xa0 in
+      let i : Bool = between 1 (frame fs 0 .imm) mostCells in
+      let q : o && d && a && b ≡ true = and-left (o && d && a && b) i header-good in
+      let p : o && d && a ≡ true = and-left (o && d && a) b q in
+      record {
+        threads = leb-true (frame fs 0 .d) mostThreads (and-right o d (and-left (o && d) a p));
+        events = leb-true (frame fs 0 .a) mostEvents (and-right (o && d) a p);
+        updates = leb-true (frame fs 0 .b) mostUpdates (and-right (o && d && a) b q);
+        cells = leb-true (frame fs 0 .imm) mostCells (and-right (leb 1 (frame fs 0 .imm)) (leb (frame fs 0 .imm) mostCells) (and-right (o && d && a && b) i header-good));
+      }
+
 -- and of the body frames: few lines are due
 module _ (fs : List ℕ) (nf : (i : ℕ) → i ≤ bodies fs → fault fs i ≡ 0) where
   some-body : 0 < bodies fs

@@ -4,6 +4,7 @@ pub mod Served
 pub mod Branch
 pub mod Laws
 pub mod Fits
+pub mod Small
 pub mod Measure
 pub mod Bound
 pub mod Enough

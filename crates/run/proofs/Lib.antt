@@ -4,5 +4,6 @@ pub mod Moves
 pub mod Bodies
 pub mod Obeys
 pub mod Turns
+pub mod Ends
 pub mod Arms
 pub mod Decides

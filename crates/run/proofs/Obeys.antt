@@ -82,7 +82,7 @@ never-is c =
     P.by-size (isNever (pendOf c) ≡ ltb lastTime c) lastTime c (λ h. rw (P.pend-low c h, le-ltb lastTime c h) (moment-pends c))
     (λ h. rw (P.pend-high c h, lt-ltb lastTime c h))
 
-sum-same : (f g : ℕ → ℕ) (n : ℕ) → ((i : ℕ) → i < n → f i ≡ g i) → sum f n ≡ sum g n
+pub sum-same : (f g : ℕ → ℕ) (n : ℕ) → ((i : ℕ) → i < n → f i ≡ g i) → sum f n ≡ sum g n
 unfolding sum
 sum-same f g zero h = refl
 sum-same f g (suc n) h = rw (h n (omega arith), sum-same f g n (λ i l. h i (omega arith)))

@@ -1,22 +1,25 @@
 -- What the code makes of its numbers, turn by turn. Nothing public speaks of it: proofs/ shows that each turn is some steps of the machine.
-use Prim.Native.Nat.{ℕ, zero, suc, _+_, _-_}
+use Prim.Native.Nat.{ℕ, zero, suc, _+_, _-_, _%_}
 use mathlib.Core.Bool.{Bool, true, false, not, _&&_}
-use mathlib.Core.List.{List, map}
+use mathlib.Core.List.{List, [], _∷_, map}
 use lib.Dec.{eqb, ltb, leb}
-use lib.ListN.{length, getD, set}
+use lib.ListN.{length, getD, set, replicate}
 use Rattle.laws.specs.Choice.{if_then_else_, between}
 use Rattle.frame.specs.declared.Frame.{Frame}
 use Rattle.frame.specs.Fields.{fields}
 use Rattle.frame.specs.Ops.{Meaning, takesImm, takesInput, one, two, may, load, store, goto, gotoIf, holds, waitEvent, waitTime, notify, notifyAfter, request, suspend, resume, startLimit, start, unknown, meaningOf}
 use Rattle.kernel.specs.Search.{Found, none, found, nth, any, first, lesser, least, sum}
+use Rattle.kernel.specs.Machine.{Job}
+use Rattle.kernel.specs.Run.{Answer as Told, Outcome}
 use Rattle.phases.specs.Codes.{lastTime, forNothing, firstEvent}
-use Rattle.phases.specs.Phases.{mayRun, requestedAt, pendTime, waitTime as timeOfWait, pendCount, waitCount, changed, askCode, earlierCode, freedCode, servedPends, servedWaits, resumedCode, suspendCode, resumeCode, endCode}
+use Rattle.phases.specs.Phases.{mayRun, requestedAt, pendTime, waitTime as timeOfWait, pendCount, waitCount, changed, askCode, earlierCode, freedCode, servedPends, servedWaits, resumedCode, suspendCode, resumeCode, endCode, notEnded}
 use Rattle.plain.specs.declared.End.{End}
 use Rattle.plain.specs.declared.End.the-variants.{Ended, Left, Stopped}
 use Rattle.plain.specs.Plain.{Out, runPlain}
 use Rattle.run.specs.declared.Control.{Control}
 use Rattle.run.specs.declared.Control.the-variants.{Runs, UpdatePhase, DeltaPhase, Turn, Evaluation, TimePhase, Over}
 use Rattle.run.specs.declared.Now.{Now}
+use Rattle.run.specs.declared.Answer.{Answer}
 use Rattle.run.specs.declared.Obeyed.{Obeyed}
 use Rattle.run.specs.declared.Obeyed.the-variants.{Stops, Goes, Took, Begins}
 use Rattle.run.specs.Stands.{Lists, lists}
@@ -271,3 +274,70 @@ isOver (Over k b p) = true
 unfoldable pub turns : (table choices inputs firsts : List ℕ) → ℕ → Code → Code
 turns table choices inputs firsts zero c = c
 turns table choices inputs firsts (suc k) c = turns table choices inputs firsts k (turn table choices inputs firsts c)
+
+-- The first state ------------------------------------------------------------------------------------------------
+
+abbrev pub firstNow : (budget : ℕ) → Now
+firstNow budget = record { control = Runs 0; time = 0; limit = 4294967296; stage = 0; left = budget; chosen = 0; taken = 0 }
+
+-- no event pends, no thread waits or is suspended, no update is requested
+abbrev pub firstLists : (threads events updates : ℕ) → Lists
+firstLists t e u = lists (replicate e forNothing) (replicate t forNothing) (replicate t 0) (replicate u 0)
+
+-- the first n hold 0
+unfoldable pub zeroed : ℕ → List ℕ → List ℕ
+zeroed zero cs = cs
+zeroed (suc n) [] = []
+zeroed (suc n) (x ∷ cs) = 0 ∷ zeroed n cs
+
+-- what is handed in, as the definition takes it
+abbrev pub jobOf : (table choices inputs : List ℕ) → (budget : ℕ) → Job
+jobOf t c i b = record { table = t; choices = c; inputs = i; budget = b }
+
+-- What is told at the end ---------------------------------------------------------------------------------------
+
+-- the answer of a run that is over with number k, body b and place p, had it this budget; its fields have 32 bits
+abbrev pub answerAs : (budget : ℕ) → Now → (modes : List ℕ) → (k b p : ℕ) → Told
+answerAs budget n ms k b p = record {
+  number = k;
+  body = b % 4294967296;
+  place = p % 4294967296;
+  time = n .time;
+  instructions = budget - n .left;
+  choices = n .chosen % 4294967296;
+  inputs = n .taken % 4294967296;
+  threads = notEnded ms;
+}
+
+-- document 01's numbers of an answer
+abbrev pub said : Answer → Told
+said a = record {
+  number = a .number;
+  body = a .body;
+  place = a .place;
+  time = a .time;
+  instructions = a .instructions;
+  choices = a .choices;
+  inputs = a .inputs;
+  threads = a .threads;
+}
+
+abbrev pub refusedAt : (number line : ℕ) → Told
+refusedAt n i = record { number = n; body = 0xff; place = i % 4294967296; time = 0; instructions = 0; choices = 0; inputs = 0; threads = 0 }
+
+-- (a run is over when it is told, so the other cases never arise)
+abbrev pub answerFrom : (budget : ℕ) → Now → (modes : List ℕ) → Control → Told
+answerFrom budget n ms (Over k b p) = answerAs budget n ms k b p
+answerFrom budget n ms (Runs b) = answerAs budget n ms 0 0 0
+answerFrom budget n ms UpdatePhase = answerAs budget n ms 0 0 0
+answerFrom budget n ms DeltaPhase = answerAs budget n ms 0 0 0
+answerFrom budget n ms Turn = answerAs budget n ms 0 0 0
+answerFrom budget n ms Evaluation = answerAs budget n ms 0 0 0
+answerFrom budget n ms TimePhase = answerAs budget n ms 0 0 0
+
+unfoldable pub answered : (budget : ℕ) → Now → (modes : List ℕ) → Told
+answered budget n ms = answerFrom budget n ms (n .control)
+
+-- with the lent cells
+unfoldable pub told : (budget : ℕ) → Code → Outcome
+told budget c = record { answer = answered budget (c .now) (c .lists .modes); cells = c .cells }

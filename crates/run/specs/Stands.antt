@@ -5,7 +5,7 @@ use mathlib.Core.List.{List, _++_}
 use lib.Dec.{ltb}
 use lib.ListN.{length, getD}
 use Rattle.laws.specs.Choice.{if_then_else_}
-use Rattle.image.specs.Layout.{bodies}
+use Rattle.image.specs.Layout.{bodies, first}
 use Rattle.kernel.specs.Search.{Found, none, found}
 use Rattle.kernel.specs.Design.{Table, Body, main, thread, update, threads as threadsOf, events as eventsOf, updates as updatesOf, cells as cellsOf}
 use Rattle.kernel.specs.Kernel.{Kernel, kernel, Stage, before, during, past}
@@ -80,3 +80,7 @@ pub record Stands (j : Job) (rest : List ℕ) (s : State) (n : Now) (l : Lists) 
   pub shows : Shows (j .table) (kernel (s .history)) l
   pub counts : Counts j rest (kernel (s .history)) (s .machine) n places cells
   pub fits : Fits (j .table) (kernel (s .history)) (s .machine .control)
+
+-- the lines of the first n bodies' first instructions
+pub record Firsts (t : Table) (n : ℕ) (fs : List ℕ) : Type 0 where
+  pub lines : (k : ℕ) → k < n → getD fs k 0 ≡ first t k

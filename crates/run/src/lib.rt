@@ -7,8 +7,8 @@ use plain::Ran;
 ghost use mathlib.Core.Path.{_≡_};
 ghost use mathlib.Core.Bool.{true};
 ghost use mathlib.Core.List.{[], map};
-ghost use Prim.Native.Nat.{_+_, _-_, _≤_, _<_};
-ghost use lib.ListN.{length, getD, set};
+ghost use Prim.Native.Nat.{_+_, _-_, _*_, _≤_, _<_};
+ghost use lib.ListN.{length, getD, set, replicate};
 ghost use Rattle.kernel.specs.Search.{nth};
 ghost use Rattle.frame.specs.Fields.{fields};
 ghost use Rattle.frame.specs.Ops.{meaningOf};
@@ -17,8 +17,11 @@ ghost use Rattle.phases.specs.Codes.{lastTime, forNothing, firstEvent};
 ghost use Rattle.phases.specs.Phases.{changed, earlierCode, freedCode, resumedCode, suspendCode, resumeCode};
 ghost use Rattle.plain.specs.Plain.{runPlain};
 ghost use Rattle.plain.specs.Laws.{Inside};
-ghost use Rattle.run.specs.Stands.{lists};
-ghost use Rattle.run.specs.Code.{Code, code, goesTo, evaluated, asked, entersTo, entersAt, servedTo, turned, leastOf, closed, movedTo, timedBy, servedBy, phaseNumber, isThread, endsTo, endsIn, did, isPast, waitsIn, full, dueBy, tookBy, inTime, startsBy, obeyed, staysAt, nextInput, withLeft, completedTo, completedAt, completed, ranTo, afterPlain, bodyRun, turn, isOver, turns};
+ghost use Rattle.run.specs.Stands.{lists, Firsts};
+ghost use Rattle.run.specs.Code.{Code, code, goesTo, evaluated, asked, entersTo, entersAt, servedTo, turned, leastOf, closed, movedTo, timedBy, servedBy, phaseNumber, isThread, endsTo, endsIn, did, isPast, waitsIn, full, dueBy, tookBy, inTime, startsBy, obeyed, staysAt, nextInput, withLeft, completedTo, completedAt, completed, ranTo, afterPlain, bodyRun, turn, isOver, turns, firstNow, firstLists, zeroed, jobOf, said, refusedAt, answerAs, answered, told};
+ghost use Rattle.image.specs.Layout.{bodies as bodiesOf};
+ghost use Rattle.image.specs.Judge.{judged};
+ghost use Rattle.kernel.specs.Run.{runs, asked as askedFor};
 
 // Where the machine stands: body b runs, a phase, the turn to evaluation or time, or the run is over with number, body and place.
 enum Control {
@@ -785,4 +788,246 @@ fn machine(
         more = more - 1;
     }
     n
+}
+
+// The lines of the bodies' first instructions, and the line past the last.
+fn put_firsts(table: &[u64], bodies: usize, firsts: &mut [usize])
+    requires { ⌜ (judged (now table) .number ≡ 0) × (bodies ≡ bodiesOf (now table)) × (bodies < length (now firsts)) ⌝ }
+    ensures { λ r. ⌜ Firsts (now (table .entry)) (bodies + 1) (now (firsts .exit)) ⌝ }
+{
+    let mut at = 1 + bodies;
+    let mut k: usize = 0;
+    while k < bodies {
+        firsts[k] = at;
+        let f = frame::decode(table[k + 1]);
+        at = at + f.imm as usize;
+        k = k + 1;
+    }
+    firsts[bodies] = at;
+}
+
+// The first n cells hold 0.
+fn zero_cells(cells: &mut [u32], n: usize)
+    requires { ⌜ n ≤ length (now cells) ⌝ }
+    ensures { λ r. ⌜ now (cells .exit) ≡ zeroed n (now (cells .entry)) ⌝ }
+{
+    let mut i: usize = 0;
+    while i < n {
+        cells[i] = 0;
+        i = i + 1;
+    }
+}
+
+fn first_now(budget: u32) -> Now
+    ensures { λ r. ⌜ r ≡ firstNow budget ⌝ }
+{
+    Now {
+        control: Control::Runs(0),
+        time: 0,
+        limit: 0x1_0000_0000,
+        stage: 0,
+        left: budget,
+        chosen: 0,
+        taken: 0,
+    }
+}
+
+// What of the budget is spent.
+fn spent(budget: u32, left: u32) -> u32
+    ensures { λ r. ⌜ r ≡ budget - left ⌝ }
+{
+    if budget < left {
+        return 0;
+    }
+    budget - left
+}
+
+// What a run answers: its number, the body and place of the stopping instruction, the time, the instructions completed, the choices
+// accepted, the inputs taken, and the threads not ended, thread 0 as bit 0.
+pub struct Answer {
+    pub number: u32,
+    pub body: u32,
+    pub place: u32,
+    pub time: u32,
+    pub instructions: u32,
+    pub choices: u32,
+    pub inputs: u32,
+    pub threads: u32,
+}
+
+fn answer_as(n: Now, budget: u32, modes: &[u8], k: u8, b: usize, p: usize) -> Answer
+    ensures { λ r. ⌜ said r ≡ answerAs budget n (now (modes .entry)) k b p ⌝ }
+{
+    Answer {
+        number: k as u32,
+        body: (b % 0x1_0000_0000) as u32,
+        place: (p % 0x1_0000_0000) as u32,
+        time: n.time,
+        instructions: spent(budget, n.left),
+        choices: (n.chosen % 0x1_0000_0000) as u32,
+        inputs: (n.taken % 0x1_0000_0000) as u32,
+        threads: phases::not_ended(modes),
+    }
+}
+
+fn answer_of(n: Now, budget: u32, modes: &[u8]) -> Answer
+    ensures { λ r. ⌜ said r ≡ answered budget n (now (modes .entry)) ⌝ }
+{
+    let c = n.control;
+    match c {
+        Control::Over(k, b, p) => answer_as(n, budget, modes, k, b, p),
+        Control::Runs(_) => answer_as(n, budget, modes, 0, 0, 0),
+        Control::UpdatePhase => answer_as(n, budget, modes, 0, 0, 0),
+        Control::DeltaPhase => answer_as(n, budget, modes, 0, 0, 0),
+        Control::Turn => answer_as(n, budget, modes, 0, 0, 0),
+        Control::Evaluation => answer_as(n, budget, modes, 0, 0, 0),
+        Control::TimePhase => answer_as(n, budget, modes, 0, 0, 0),
+    }
+}
+
+// Turns that are enough for every run.
+fn bound_of(budget: u32, choices: usize) -> u64
+    requires { ⌜ choices ≤ 4096 ⌝ }
+    ensures { λ r. ⌜ r ≡ 8 * (budget + choices) + 1 ⌝ }
+{
+    8 * (budget as u64 + choices as u64) + 1
+}
+
+// The run from its first state on.
+fn run_from(
+    table: &[u64],
+    choices: &[u8],
+    inputs: &[u32],
+    firsts: &[usize],
+    budget: u32,
+    pends: &mut [u64],
+    waits: &mut [u64],
+    modes: &mut [u8],
+    requests: &mut [u8],
+    places: &mut [usize],
+    cells: &mut [u32],
+) -> Answer
+    requires { ⌜ (length (now choices) ≤ 4096) × (length (now waits) ≤ 16) × (length (now requests) ≤ 16) ⌝ }
+    ensures { λ r. ⌜ record { answer = said r; cells = now (cells .exit) } ≡ told budget (turns (now (table .entry)) (now (choices .entry)) (now (inputs .entry)) (now (firsts .entry)) (8 * (budget + length (now (choices .entry))) + 1) (code (firstNow budget) (lists (now (pends .entry)) (now (waits .entry)) (now (modes .entry)) (now (requests .entry))) (now (places .entry)) (now (cells .entry)))) ⌝ }
+{
+    let bound = bound_of(budget, choices.len());
+    let start = first_now(budget);
+    let n = machine(
+        table,
+        choices,
+        inputs,
+        firsts,
+        start,
+        bound,
+        pends,
+        waits,
+        modes,
+        requests,
+        places,
+        cells,
+    );
+    answer_of(n, budget, modes)
+}
+
+// The run on a design of so many threads, events and updates, the lines of whose bodies are known and whose cells hold 0.
+fn run_laid(
+    table: &[u64],
+    choices: &[u8],
+    inputs: &[u32],
+    firsts: &[usize],
+    threads: usize,
+    events: usize,
+    updates: usize,
+    budget: u32,
+    cells: &mut [u32],
+) -> Answer
+    requires { ⌜ (length (now choices) ≤ 4096) × (threads ≤ 16) × (events ≤ 32) × (updates ≤ 16) ⌝ }
+    ensures { λ r. ⌜ record { answer = said r; cells = now (cells .exit) } ≡ told budget (turns (now (table .entry)) (now (choices .entry)) (now (inputs .entry)) (now (firsts .entry)) (8 * (budget + length (now (choices .entry))) + 1) (code (firstNow budget) (firstLists threads events updates) (replicate (1 + threads + updates) 0) (now (cells .entry)))) ⌝ }
+{
+    let bodies = 1 + threads + updates;
+    let mut pends = [0x1_0000_0001u64; 32];
+    let mut waits = [0x1_0000_0001u64; 16];
+    let mut modes = [0u8; 16];
+    let mut requests = [0u8; 16];
+    let mut places = [0usize; 33];
+    run_from(
+        table,
+        choices,
+        inputs,
+        firsts,
+        budget,
+        &mut pends[..events],
+        &mut waits[..threads],
+        &mut modes[..threads],
+        &mut requests[..updates],
+        &mut places[..bodies],
+        cells,
+    )
+}
+
+// A run of an accepted table.
+fn run_accepted(
+    table: &[u64],
+    choices: &[u8],
+    inputs: &[u32],
+    budget: u32,
+    cells: &mut [u32],
+) -> Answer
+    requires { ⌜ (judged (now table) .number ≡ 0) × (length (now choices) ≤ 4096) × (256 ≤ length (now cells)) ⌝ }
+    ensures { λ r. ⌜ record { answer = said r; cells = now (cells .exit) } ≡ runs (jobOf (now (table .entry)) (now (choices .entry)) (now (inputs .entry)) budget) (now (cells .entry)) ⌝ }
+{
+    let h = frame::decode(table[0]);
+    let threads = h.d as usize;
+    let updates = h.b as usize;
+    let mut firsts = [0usize; 34];
+    put_firsts(table, 1 + threads + updates, &mut firsts);
+    zero_cells(cells, h.imm as usize);
+    run_laid(
+        table,
+        choices,
+        inputs,
+        &firsts,
+        threads,
+        h.a as usize,
+        updates,
+        budget,
+        cells,
+    )
+}
+
+// "Refusals give ff, the line, and zeros."
+fn refusal(number: u8, line: usize) -> Answer
+    ensures { λ r. ⌜ said r ≡ refusedAt number line ⌝ }
+{
+    Answer {
+        number: number as u32,
+        body: 0xff,
+        place: (line % 0x1_0000_0000) as u32,
+        time: 0,
+        instructions: 0,
+        choices: 0,
+        inputs: 0,
+        threads: 0,
+    }
+}
+
+// Runs a design on a table, with the order of threads, the inputs and the budget as given, and the design's cells in the lent ones.
+pub fn run(table: &[u64], choices: &[u8], inputs: &[u32], budget: u32, cells: &mut [u32]) -> Answer
+    ensures { λ r. ⌜ record { answer = said r; cells = now (cells .exit) } ≡ askedFor (jobOf (now (table .entry)) (now (choices .entry)) (now (inputs .entry)) budget) (now (cells .entry)) ⌝ }
+{
+    if 4096 < choices.len() {
+        return refusal(9, 1);
+    }
+    if 1024 < inputs.len() {
+        return refusal(9, 2);
+    }
+    if cells.len() < 256 {
+        return refusal(8, 0);
+    }
+    let v = image::judge(table);
+    let number = v.number();
+    if number == 0 {
+        return run_accepted(table, choices, inputs, budget, cells);
+    }
+    refusal(number, v.line())
 }

@@ -1,0 +1,123 @@
+-- The numbers of an answer fit 32 bits: the body and the place that a run stops at, the choices and the inputs. Assumes nothing.
+use Prim.Native.Nat.{ℕ, zero, suc, _+_, _<_, _≤_}
+use mathlib.Core.Path.{_≡_, refl}
+use mathlib.Core.Bool.{Bool, true, false}
+use native.Mathlib.Omega.{arith}
+use borrow.Author.Tests.{ltb-true}
+use lib.Dec.{ltb}
+use lib.ListN.{length}
+use Rattle.laws.specs.Choice.{if_then_else_, and-left}
+use Rattle.image.specs.Layout.{counts, len}
+use Rattle.kernel.specs.Design.{Table, Body, main, thread, update, threads, updates, number, lengthOf}
+use Rattle.kernel.specs.Kernel.{Kernel, Deed, ran, kernel}
+use Rattle.kernel.specs.Pending.{runnable, isRequested}
+use Rattle.kernel.specs.Effect.{Effect, stops, sets, takes, goes, does, begins}
+use Rattle.kernel.specs.Machine.{Job, Control, running, updatePhase, deltaPhase, turn, evaluation, timePhase, over, Machine, State, Out, goTo, init}
+use Rattle.kernel.specs.Step.{runsOn, perform, stepFrom, step, steps}
+use Rattle.kernel.proofs.Search.{nth-some}
+use Rattle.kernel.proofs.Branch as B
+use Rattle.kernel.proofs.Branch.{Branch, branch, effectOf}
+use Rattle.kernel.proofs.Fits.{Fits, fits-step}
+
+abbrev pub Small : Control → Type 0
+Small (running b) = Unit {0}
+Small updatePhase = Unit {0}
+Small deltaPhase = Unit {0}
+Small turn = Unit {0}
+Small evaluation = Unit {0}
+Small timePhase = Unit {0}
+Small (over n b p) = (b < 4294967296) × (p < 4294967296)
+
+-- at most all choices are accepted, and an instruction takes one input at most
+pub record Few (j : Job) (m : Machine) : Type 0 where
+  pub control : Small (m .control)
+  pub choices : m .choices ≤ length (j .choices)
+  pub inputs : m .inputs ≤ m .instructions
+
+-- the fields of a frame are bytes, and imm has 32 bits
+module _ (t : Table) where
+  few-threads : threads t < 256
+  unfolding counts
+  few-threads = omega arith
+
+  few-updates : updates t < 256
+  unfolding counts
+  few-updates = omega arith
+
+  short-body : (n : ℕ) → lengthOf t n < 4294967296
+  unfolding len
+  short-body n = omega arith
+
+  small-number : (k : Kernel) (b : Body) → Fits t k (running b) → number t b < 4294967296
+  small-number k main f = omega arith
+  small-number k (thread i) f =
+      let h : i < threads t = ltb-true i (threads t) (and-left (ltb i (threads t)) _ f) in
+      omega (arith, few-threads)
+  small-number k (update u) f =
+      let h : u < updates t = ltb-true u (updates t) (and-left (ltb u (updates t)) (k .requested u) f) in
+      omega (arith, few-threads, few-updates)
+
+module _ (j : Job) (s : State) where
+  abbrev t : Table
+  t = j .table
+
+  abbrev k : Kernel
+  k = kernel (s .history)
+
+  small-on : (b : Body) (n : Kernel) → Small (runsOn j s b n)
+  small-on main n = tt
+  small-on (thread i) n = go (runnable t n i)
+    where
+      go : (z : Bool) → Small (if z then running (thread i) else evaluation)
+      go true = tt
+      go false = tt
+  small-on (update u) n = tt
+
+  few-perform : (b : Body) (x : Effect) → Fits t k (running b) → B.due j s b ≡ true → Few j (s .machine) → Few j (perform j s b x .next)
+  unfolding perform
+  few-perform b (stops n) f d z =
+      let h : s .machine .places (number t b) < lengthOf t (number t b) = ltb-true (s .machine .places (number t b)) (lengthOf t (number t b)) d in
+      record {
+        control = (small-number t k b f, omega (arith, short-body t (number t b)));
+        choices = z .choices;
+        inputs = z .inputs;
+      }
+  few-perform b (sets d x) f h z = record { control = tt; choices = z .choices; inputs = omega (arith, z .inputs) }
+  few-perform b (takes d x) f h z = record { control = tt; choices = z .choices; inputs = omega (arith, z .inputs) }
+  few-perform b (goes p) f h z = record { control = tt; choices = z .choices; inputs = omega (arith, z .inputs) }
+  few-perform b (does x) f h z = record { control = small-on b _; choices = z .choices; inputs = omega (arith, z .inputs) }
+  few-perform b (begins l) f h z = record { control = tt; choices = z .choices; inputs = omega (arith, z .inputs) }
+
+  -- the machine at another place
+  placed-there : (c : Control) → Small c → Few j (s .machine) → Few j (goTo c (s .machine))
+  placed-there c h z = record { control = h; choices = z .choices; inputs = z .inputs }
+
+  few-branch : (c : Control) (o : Out) → Branch j s c o → Fits t k c → Small c → Few j (s .machine) → Few j (o .next)
+  few-branch c o (B.obeys b p q) f y z = few-perform b (effectOf j s b) f p z
+  few-branch c o (B.unpaid b p q) f y z = few-perform b (stops 22) f p z
+  few-branch c o (B.main-ends q) f y z = placed-there _ (omega arith, omega arith) z
+  few-branch c o (B.thread-ends i q) f y z = placed-there _ tt z
+  few-branch c o (B.update-ends u q) f y z = placed-there _ tt z
+  few-branch c o (B.idles q) f y z = placed-there _ tt z
+  few-branch c o (B.unchosen p q) f y z = placed-there _ (omega arith, omega arith) z
+  few-branch c o (B.refuses n p q r) f y z = placed-there _ (omega arith, omega arith) z
+  few-branch c o (B.dispatches n p q r) f y z =
+      record { control = tt; choices = omega (arith, nth-some (j .choices) (s .machine .choices) n q); inputs = z .inputs }
+  few-branch c o (B.updated q) f y z = placed-there _ tt z
+  few-branch c o (B.enters u q) f y z = record { control = tt; choices = z .choices; inputs = z .inputs }
+  few-branch c o B.serves f y z = placed-there _ tt z
+  few-branch c o (B.turns q) f y z = placed-there _ tt z
+  few-branch c o (B.waits q) f y z = placed-there _ tt z
+  few-branch c o (B.quiets q) f y z = placed-there _ tt z
+  few-branch c o (B.limits d p q) f y z = placed-there _ tt z
+  few-branch c o (B.moves d p q) f y z = placed-there _ tt z
+  few-branch c o (B.rests n b p) f y z = placed-there _ y z
+
+few-from : (j : Job) (n : ℕ) (s : State) → Fits (j .table) (kernel (s .history)) (s .machine .control) → Few j (s .machine) → Few j (steps j n s .machine)
+unfolding step steps
+few-from j zero s f z = z
+few-from j (suc n) s f z =
+    few-from j n (step j s) (fits-step j s f) (few-branch j s (s .machine .control) (stepFrom j s (s .machine .control)) (branch j s (s .machine .control)) f (z .control) z)
+
+pub few : (j : Job) (n : ℕ) → Few j (steps j n (init j) .machine)
+few j n = few-from j n (init j) tt (record { control = tt; choices = omega arith; inputs = omega arith })
