@@ -7,3 +7,4 @@ pub mod Turns
 pub mod Ends
 pub mod Arms
 pub mod Decides
+pub mod Unique
