@@ -43,6 +43,34 @@ fishdavit_verdict fishdavit_read(const uint8_t *bytes, size_t n, uint64_t *table
  * 0: the first `line` bytes are the image's lines, the rest is untouched. A refusal changes no byte. */
 fishdavit_verdict fishdavit_write(const uint64_t *table, size_t n, uint8_t *bytes, size_t m);
 
+/* What a run answers. A refusal gives its number, body 0xff, the line as place, and zeros.
+ *
+ *  number             why the run ended
+ *  0 quiet, 10 limit  the phase ended so, and main reached its end; body 0xff, place 0, as for 11, 20 and 21
+ *  2 to 7             the table is refused, as by fishdavit_judge
+ *  8 room             fewer than 256 cells
+ *  9 job              over 4,096 choices (line 1), or over 1,024 inputs (line 2)
+ *  11                 main ended without a start
+ *  12 to 19, 22, 23   an instruction stopped the run; body and place name it
+ *  20, 21             the choices are used up with a thread runnable; a choice names a thread that isn't runnable
+ */
+typedef struct fishdavit_answer {
+  uint32_t number;
+  uint32_t body;
+  uint32_t place;
+  uint32_t time;
+  uint32_t instructions; /* completed */
+  uint32_t choices;      /* accepted */
+  uint32_t inputs;       /* taken */
+  uint32_t threads;      /* not ended, thread 0 as bit 0 */
+} fishdavit_answer;
+
+/* Runs the design of the table of n frames: the c choices name the thread of each dispatch, the i inputs are taken in order, and at most
+ * budget instructions are completed. The m cells are at least 256; the design's cells, the first of them, are set to 0 and then hold
+ * what the last completed instruction left, the rest is untouched. A refusal (2 to 9) changes no cell. */
+fishdavit_answer fishdavit_run(const uint64_t *table, size_t n, const uint8_t *choices, size_t c, const uint32_t *inputs, size_t i,
+                               uint32_t budget, uint32_t *cells, size_t m);
+
 #ifdef __cplusplus
 }
 #endif

@@ -1,10 +1,13 @@
-// The C interface: judge, read and write on numbers and slices. include/fishdavit.h declares it.
+// The C interface: judge, read, write and run on numbers and slices. include/fishdavit.h declares it.
 use image::Verdict;
+use run::Answer;
 ghost use mathlib.Core.Path.{_≡_};
 ghost use Prim.Native.Nat.{_≤_};
 ghost use Rattle.image.specs.Judge.{said, judged};
 ghost use Rattle.lines.specs.Text.{outcome, reading, writing};
-ghost use Rattle.fishdavit.specs.Plain.{plain, Small};
+ghost use Rattle.kernel.specs.Run.{asked};
+ghost use Rattle.run.specs.Code.{said as ranTo};
+ghost use Rattle.fishdavit.specs.Plain.{plain, answer, Small};
 
 // Document 01's number, and the line of the first fault or the count that was done.
 #[repr(C)]
@@ -44,4 +47,45 @@ pub extern "C" fn fishdavit_write(table: &[u64], bytes: &mut [u8]) -> FishdavitV
     ensures { λ r. ⌜ outcome (plain r) (now (bytes .exit)) ≡ writing (now (table .entry)) (now (bytes .entry)) ⌝ }
 {
     told(lines::write(table, bytes))
+}
+
+// What a run answers.
+#[repr(C)]
+pub struct FishdavitAnswer {
+    pub number: u32,
+    pub body: u32,
+    pub place: u32,
+    pub time: u32,
+    pub instructions: u32,
+    pub choices: u32,
+    pub inputs: u32,
+    pub threads: u32,
+}
+
+fn answered(a: Answer) -> FishdavitAnswer
+    ensures { λ r. ⌜ answer r ≡ ranTo a ⌝ }
+{
+    FishdavitAnswer {
+        number: a.number,
+        body: a.body,
+        place: a.place,
+        time: a.time,
+        instructions: a.instructions,
+        choices: a.choices,
+        inputs: a.inputs,
+        threads: a.threads,
+    }
+}
+
+#[no_mangle]
+pub extern "C" fn fishdavit_run(
+    table: &[u64],
+    choices: &[u8],
+    inputs: &[u32],
+    budget: u32,
+    cells: &mut [u32],
+) -> FishdavitAnswer
+    ensures { λ r. ⌜ record { answer = answer r; cells = now (cells .exit) } ≡ asked (record { table = now (table .entry); choices = now (choices .entry); inputs = now (inputs .entry); budget = budget }) (now (cells .entry)) ⌝ }
+{
+    answered(run::run(table, choices, inputs, budget, cells))
 }
