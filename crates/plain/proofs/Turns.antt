@@ -10,10 +10,10 @@ use lib.ListN.{length, getD, set}
 use Rattle.frame.specs.declared.Frame.{Frame}
 use Rattle.frame.specs.Fields.{fields}
 use Rattle.plain.specs.declared.Eff.{Eff}
-use Rattle.plain.specs.declared.Eff.the-variants.{Put, Go, Stop, Leave}
+use Rattle.plain.specs.declared.Eff.the-variants.{Put, Next, Go, Stop, Leave}
 use Rattle.plain.specs.declared.End.the-variants.{Ended, Left, Stopped}
 use Rattle.plain.specs.declared.Ran.{Ran}
-use Rattle.plain.specs.Plain.{Out, out, after, plainEffect, plain, able, runPlain}
+use Rattle.plain.specs.Plain.{Out, out, after, plainEffect, Comes, plain, able, runPlain}
 
 module _ (t : List ℕ) (base len : ℕ) (o : Out) (p x : ℕ) (cs : List ℕ) (inv : plain x t base len p cs ≡ o) where
   pub loop-ended : len ≤ p → out Ended p x cs ≡ o
@@ -32,10 +32,10 @@ module _ (t : List ℕ) (base len : ℕ) (o : Out) (p x : ℕ) (cs : List ℕ) (
       by zero z e = rw (lt-ltb p len h) at e
       by (suc x) z e = absurd (omega arith)
 
-  module _ (h : p < len) (z : x ≡ 0 → ⊥) (i : Frame) (f : Eff) (d : i ≡ fields (getD t (base + p) 0)) (g : f ≡ plainEffect i p cs) where
-    turned : after f (plain (x - 1) t base len) p x cs ≡ o
+  module _ (h : p < len) (z : x ≡ 0 → ⊥) (i : Frame) (f : Eff) (d : i ≡ fields (getD t (base + p) 0)) (g : Comes f i cs) where
+    turned : (e : Eff) → e ≡ plainEffect i p cs → after e (plain (x - 1) t base len) p x cs ≡ o
     unfolding plain
-    turned = rw (g, d) (by x z inv)
+    turned e q = rw (q, d) (by x z inv)
       where
         by : (x : ℕ) → (x ≡ 0 → ⊥) → plain x t base len p cs ≡ o → after (plainEffect (fields (getD t (base + p) 0)) p cs) (plain (x - 1) t base len) p x cs ≡ o
         by zero z e = absurd (z refl)
@@ -44,18 +44,21 @@ module _ (t : List ℕ) (base len : ℕ) (o : Out) (p x : ℕ) (cs : List ℕ) (
             rw m (rw (lt-ltb p len h) at e)
 
     pub loop-stops : (n : ℕ) → f ≡ Stop n → out (Stopped n) p x cs ≡ o
-    loop-stops n e = rw e at turned
+    loop-stops n e = turned (Stop n) (rw e at (g p))
 
     pub loop-leaves : f ≡ Leave → out Left p x cs ≡ o
-    loop-leaves e = rw e at turned
+    loop-leaves e = turned Leave (rw e at (g p))
+
+    pub loop-nexts : f ≡ Next → plain (x - 1) t base len (p + 1) cs ≡ o
+    loop-nexts e = turned (Go (p + 1)) (rw e at (g p))
 
     pub loop-goes : (q : ℕ) → f ≡ Go q → plain (x - 1) t base len q cs ≡ o
-    loop-goes q e = rw e at turned
+    loop-goes q e = turned (Go q) (rw e at (g p))
 
     pub loop-puts : (c v : ℕ) (ds : List ℕ) → f ≡ Put c v → ds ≡ set cs c v → plain (x - 1) t base len (p + 1) ds ≡ o
-    loop-puts c v ds e q = rw q (rw e at turned)
+    loop-puts c v ds e q = rw q (turned (Put c v) (rw e at (g p)))
 
-pub ruleset loop-laws = (loop-ended, loop-spent, loop-stops, loop-leaves, loop-goes, loop-puts)
+pub ruleset loop-laws = (loop-ended, loop-spent, loop-stops, loop-leaves, loop-nexts, loop-goes, loop-puts)
 
 -- where the body does not lie in the table, or the cells are too few
 module _ (budget : ℕ) (t : List ℕ) (base len from : ℕ) (cs : List ℕ) (r : Ran) (e : r ≡ record { end = Stopped 4; place = from; left = budget }) where

@@ -10,7 +10,7 @@ use lib.ListN.{length, getD, set}
 use Rattle.laws.specs.Choice.{and-left, and-right}
 use Rattle.frame.specs.Fields.{fields}
 use Rattle.plain.specs.declared.Eff.{Eff}
-use Rattle.plain.specs.declared.Eff.the-variants.{Put, Go, Stop, Leave}
+use Rattle.plain.specs.declared.Eff.the-variants.{Put, Next, Go, Stop, Leave}
 use Rattle.plain.specs.declared.End.{End}
 use Rattle.plain.specs.declared.End.the-variants.{Ended, Left, Stopped}
 use Rattle.plain.specs.Plain.{Out, out, when, after, plainEffect, plain, able, runPlain}
@@ -37,6 +37,7 @@ module _ (t : List ℕ) (base len : ℕ) where
     where
       by : p < len → (f : Eff) → ((q : ℕ) (ds : List ℕ) → plain x t base len q ds .ran .end ≡ Left → plain x t base len q ds .ran .place < len) → after f (plain x t base len) p (suc x) cs .ran .end ≡ Left → after f (plain x t base len) p (suc x) cs .ran .place < len
       by h (Put d v) again e = again (p + 1) (set cs d v) e
+      by h Next again e = again (p + 1) cs e
       by h (Go q) again e = again q cs e
       by h (Stop n) again e = unlike-stop n e
       by h Leave again e = h

@@ -1,5 +1,6 @@
 -- The plain instructions: those that take no input and ask the kernel for nothing. What one comes to, and a run of them.
 use Prim.Native.Nat.{ℕ, zero, suc, _+_, _≤_}
+use mathlib.Core.Path.{_≡_}
 use mathlib.Core.Bool.{Bool, true, false, _&&_}
 use mathlib.Core.List.{List, []}
 use lib.Dec.{eqb, ltb, leb}
@@ -14,7 +15,7 @@ use Rattle.kernel.specs.Design.{main}
 use Rattle.kernel.specs.Kernel.{Deed, nothing, notifies, asks, waits, requests, suspends, resumes, kernel}
 use Rattle.kernel.specs.Effect.{View, Effect, stops, sets, takes, goes, does, begins, effect}
 use Rattle.plain.specs.declared.Eff.{Eff}
-use Rattle.plain.specs.declared.Eff.the-variants.{Put, Go, Stop, Leave}
+use Rattle.plain.specs.declared.Eff.the-variants.{Put, Next, Go, Stop, Leave}
 use Rattle.plain.specs.declared.End.{End}
 use Rattle.plain.specs.declared.End.the-variants.{Ended, Left, Stopped}
 use Rattle.plain.specs.declared.Ran.{Ran}
@@ -69,45 +70,34 @@ unfoldable pub plainEffect : Frame → (place : ℕ) → List ℕ → Eff
 plainEffect i place cells =
     if isPlain (meaningOf (i .op)) then asEff place (effect (seen place cells) i (meaningOf (i .op))) else Leave
 
--- what ops 02, 10 to 14, 18 to 1c, 20 to 22, 28 to 2e make of the values of a and b
-abbrev pub made : Meaning → (x y : ℕ) → Result
-made (one f) x y = value (f x)
-made (two f) x y = value (f x y)
-made (may f) x y = f x y
-made takesImm x y = stop 0
-made takesInput x y = stop 0
-made load x y = stop 0
-made store x y = stop 0
-made goto x y = stop 0
-made gotoIf x y = stop 0
-made (holds n) x y = stop 0
-made waitEvent x y = stop 0
-made waitTime x y = stop 0
-made notify x y = stop 0
-made notifyAfter x y = stop 0
-made request x y = stop 0
-made suspend x y = stop 0
-made resume x y = stop 0
-made startLimit x y = stop 0
-made start x y = stop 0
-made unknown x y = stop 0
+-- the code's answer knows no place: what it comes to at one
+abbrev pub stands : (place : ℕ) → Eff → Eff
+stands place (Put d x) = Put d x
+stands place Next = Go (place + 1)
+stands place (Go p) = Go p
+stands place (Stop n) = Stop n
+stands place Leave = Leave
 
--- the parts of the decision: cell d takes a result or the run stops; a place of a region read and written; goto; assert and assume
+-- and at each it is what the instruction comes to
+abbrev pub Comes : Eff → Frame → List ℕ → Type 0
+Comes e i cells = (place : ℕ) → stands place e ≡ plainEffect i place cells
+
+-- the parts of the decision: cell d takes a result or the run stops; place v of a region read and written; goto; assert and assume
 abbrev pub putOf : ℕ → Result → Eff
 putOf d (value x) = Put d x
 putOf d (stop n) = Stop n
 
-abbrev pub loadOf : Frame → List ℕ → Eff
-loadOf i cs = if leb (i .b) (getD cs (i .a) 0) then Stop 16 else Put (i .d) (getD cs (i .imm + getD cs (i .a) 0) 0)
+abbrev pub loadOf : Frame → (v : ℕ) → List ℕ → Eff
+loadOf i v cs = if leb (i .b) v then Stop 16 else Put (i .d) (getD cs (i .imm + v) 0)
 
-abbrev pub storeOf : Frame → List ℕ → Eff
-storeOf i cs = if leb (i .b) (getD cs (i .a) 0) then Stop 16 else Put (i .imm + getD cs (i .a) 0) (getD cs (i .d) 0)
+abbrev pub storeOf : Frame → (v : ℕ) → List ℕ → Eff
+storeOf i v cs = if leb (i .b) v then Stop 16 else Put (i .imm + v) (getD cs (i .d) 0)
 
-abbrev pub jumpOf : (x to place : ℕ) → Eff
-jumpOf x to place = if eqb x 0 then Go (place + 1) else Go to
+abbrev pub jumpOf : (x to : ℕ) → Eff
+jumpOf x to = if eqb x 0 then Next else Go to
 
-abbrev pub holdOf : (x n place : ℕ) → Eff
-holdOf x n place = if eqb x 0 then Stop n else Go (place + 1)
+abbrev pub holdOf : (x n : ℕ) → Eff
+holdOf x n = if eqb x 0 then Stop n else Next
 
 -- how a run of plain instructions ends, and the cells then
 pub record Out : Type 0 where
@@ -125,6 +115,7 @@ when false f o = o
 -- "One that stops the run changes nothing and isn't counted."
 abbrev pub after : Eff → (ℕ → List ℕ → Out) → (place left : ℕ) → List ℕ → Out
 after (Put d x) rest place left cells = rest (place + 1) (set cells d x)
+after Next rest place left cells = rest (place + 1) cells
 after (Go p) rest place left cells = rest p cells
 after (Stop n) rest place left cells = out (Stopped n) place left cells
 after Leave rest place left cells = out Left place left cells

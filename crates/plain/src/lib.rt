@@ -2,17 +2,16 @@
 use frame::Frame;
 use word::Outcome;
 ghost use mathlib.Core.Path.{_≡_};
-ghost use Prim.Native.Nat.{_+_, _≤_, _<_};
+ghost use Prim.Native.Nat.{_+_, _-_, _≤_, _<_};
 ghost use lib.ListN.{length, getD, set};
-ghost use Rattle.word.specs.Word.{value};
 ghost use Rattle.word.specs.Said.{said};
-ghost use Rattle.frame.specs.Ops.{meaningOf};
-ghost use Rattle.plain.specs.Plain.{made, putOf, loadOf, storeOf, jumpOf, holdOf, plainEffect, plain, runPlain};
+ghost use Rattle.plain.specs.Plain.{Comes, putOf, loadOf, storeOf, jumpOf, holdOf, plain, runPlain};
 
-// What a plain instruction comes to: a cell takes a value and the body goes on at the next place; the body goes on elsewhere;
-// the run stops with a number; or the instruction is not plain.
+// What a plain instruction comes to, at whatever place it stands: a cell takes a value and the body goes on at the next place; the
+// body just goes on there; it goes on elsewhere; the run stops with a number; or the instruction is not plain.
 pub enum Eff {
     Put(usize, u32),
+    Next,
     Go(usize),
     Stop(u8),
     Leave,
@@ -46,21 +45,21 @@ fn wide(x: u32) -> usize
     x as usize
 }
 
-// The region's place is tested against its length, and the cell against the lent ones, which may be fewer where nobody judged.
-fn load_of(i: Frame, cells: &[u32]) -> Eff
-    ensures { λ e. ⌜ e ≡ loadOf i (now (cells .entry)) ⌝ }
+// The place v of the region is tested against its length, and the cell against the lent ones, which may be fewer where nobody judged.
+fn load_of(i: Frame, v: u32, cells: &[u32]) -> Eff
+    ensures { λ e. ⌜ e ≡ loadOf i v (now (cells .entry)) ⌝ }
 {
-    let x = wide(cell(cells, i.a as usize));
+    let x = wide(v);
     if i.b as usize <= x {
         return Eff::Stop(16);
     }
     Eff::Put(i.d as usize, cell(cells, i.imm as usize + x))
 }
 
-fn store_of(i: Frame, cells: &[u32]) -> Eff
-    ensures { λ e. ⌜ e ≡ storeOf i (now (cells .entry)) ⌝ }
+fn store_of(i: Frame, v: u32, cells: &[u32]) -> Eff
+    ensures { λ e. ⌜ e ≡ storeOf i v (now (cells .entry)) ⌝ }
 {
-    let x = wide(cell(cells, i.a as usize));
+    let x = wide(v);
     if i.b as usize <= x {
         return Eff::Stop(16);
     }
@@ -68,104 +67,63 @@ fn store_of(i: Frame, cells: &[u32]) -> Eff
 }
 
 // Goto where the cell is not 0.
-fn jump(x: u32, to: usize, place: usize) -> Eff
-    requires { ⌜ place < 1024 ⌝ }
-    ensures { λ e. ⌜ e ≡ jumpOf x to place ⌝ }
+fn jump(x: u32, to: usize) -> Eff
+    ensures { λ e. ⌜ e ≡ jumpOf x to ⌝ }
 {
     if x == 0 {
-        return Eff::Go(place + 1);
+        return Eff::Next;
     }
     Eff::Go(to)
 }
 
-// On where the cell is not 0, else the run stops with n.
-fn holds(x: u32, n: u8, place: usize) -> Eff
-    requires { ⌜ place < 1024 ⌝ }
-    ensures { λ e. ⌜ e ≡ holdOf x n place ⌝ }
+// Ops 50 and 51: on where the cell is not 0, else the run stops with 12 or 13.
+fn holds(x: u32, op: u8) -> Eff
+    requires { ⌜ (0x50 ≤ op) × (op ≤ 0x51) ⌝ }
+    ensures { λ e. ⌜ e ≡ holdOf x (12 + (op - 0x50)) ⌝ }
 {
     if x == 0 {
-        return Eff::Stop(n);
+        return Eff::Stop(12 + (op - 0x50));
     }
-    Eff::Go(place + 1)
+    Eff::Next
 }
 
-// The parts of the decision that make a value of the values of a and b.
-fn unsigned(op: u8, x: u32, y: u32) -> Outcome
-    requires { ⌜ (0x10 ≤ op) × (op ≤ 0x14) ⌝ }
-    ensures { λ r. ⌜ said r ≡ made (meaningOf op) x y ⌝ }
-{
-    match op {
-        0x10 => Outcome::Value(word::add_u(x, y)),
-        0x11 => Outcome::Value(word::sub_u(x, y)),
-        0x12 => Outcome::Value(word::mul_u(x, y)),
-        0x13 => word::quot_u(x, y),
-        _ => word::rem_u(x, y),
-    }
-}
-
-fn signed(op: u8, x: u32, y: u32) -> Outcome
-    requires { ⌜ (0x18 ≤ op) × (op ≤ 0x1c) ⌝ }
-    ensures { λ r. ⌜ said r ≡ made (meaningOf op) x y ⌝ }
-{
-    match op {
-        0x18 => word::add_s(x, y),
-        0x19 => word::sub_s(x, y),
-        0x1a => word::mul_s(x, y),
-        0x1b => word::quot_s(x, y),
-        _ => word::rem_s(x, y),
-    }
-}
-
-fn bits(op: u8, x: u32, y: u32) -> u32
-    requires { ⌜ (0x20 ≤ op) × (op ≤ 0x22) ⌝ }
-    ensures { λ r. ⌜ value r ≡ made (meaningOf op) x y ⌝ }
-{
-    match op {
-        0x20 => word::and_b(x, y),
-        0x21 => word::or_b(x, y),
-        _ => word::not_b(x),
-    }
-}
-
-fn compared(op: u8, x: u32, y: u32) -> u32
-    requires { ⌜ (0x28 ≤ op) × (op ≤ 0x2e) ⌝ }
-    ensures { λ r. ⌜ value r ≡ made (meaningOf op) x y ⌝ }
-{
-    match op {
-        0x28 => word::equal(x, y),
-        0x29 => word::differ(x, y),
-        0x2a => word::lt_u(x, y),
-        0x2b => word::le_u(x, y),
-        0x2c => word::lt_s(x, y),
-        0x2d => word::le_s(x, y),
-        _ => word::is_zero(x),
-    }
-}
-
-// What an instruction comes to: the one decision over the op numbers.
-fn effect_of(i: Frame, place: usize, cells: &[u32]) -> Eff
-    requires { ⌜ (place < 1024) × (256 ≤ length (now cells)) ⌝ }
-    ensures { λ e. ⌜ e ≡ plainEffect i place (now (cells .entry)) ⌝ }
+// The one decision over the op numbers. It is flat, and knows no place, because this is what each instruction costs.
+fn effect_of(i: Frame, cells: &[u32]) -> Eff
+    requires { ⌜ 256 ≤ length (now cells) ⌝ }
+    ensures { λ e. ⌜ Comes e i (now (cells .entry)) ⌝ }
 {
     let op = i.op;
     let d = i.d as usize;
-    let a = i.a as usize;
-    let b = i.b as usize;
-    let x = cells[a];
-    let y = cells[b];
+    let x = cells[i.a as usize];
+    let y = cells[i.b as usize];
     match op {
         0x01 => Eff::Put(d, i.imm),
         0x02 => Eff::Put(d, x),
-        0x10..=0x14 => put(d, unsigned(op, x, y)),
-        0x18..=0x1c => put(d, signed(op, x, y)),
-        0x20..=0x22 => Eff::Put(d, bits(op, x, y)),
-        0x28..=0x2e => Eff::Put(d, compared(op, x, y)),
-        0x30 => load_of(i, cells),
-        0x31 => store_of(i, cells),
+        0x10 => Eff::Put(d, word::add_u(x, y)),
+        0x11 => Eff::Put(d, word::sub_u(x, y)),
+        0x12 => Eff::Put(d, word::mul_u(x, y)),
+        0x13 => put(d, word::quot_u(x, y)),
+        0x14 => put(d, word::rem_u(x, y)),
+        0x18 => put(d, word::add_s(x, y)),
+        0x19 => put(d, word::sub_s(x, y)),
+        0x1a => put(d, word::mul_s(x, y)),
+        0x1b => put(d, word::quot_s(x, y)),
+        0x1c => put(d, word::rem_s(x, y)),
+        0x20 => Eff::Put(d, word::and_b(x, y)),
+        0x21 => Eff::Put(d, word::or_b(x, y)),
+        0x22 => Eff::Put(d, word::not_b(x)),
+        0x28 => Eff::Put(d, word::equal(x, y)),
+        0x29 => Eff::Put(d, word::differ(x, y)),
+        0x2a => Eff::Put(d, word::lt_u(x, y)),
+        0x2b => Eff::Put(d, word::le_u(x, y)),
+        0x2c => Eff::Put(d, word::lt_s(x, y)),
+        0x2d => Eff::Put(d, word::le_s(x, y)),
+        0x2e => Eff::Put(d, word::is_zero(x)),
+        0x30 => load_of(i, x, cells),
+        0x31 => store_of(i, x, cells),
         0x40 => Eff::Go(i.imm as usize),
-        0x41 => jump(x, i.imm as usize, place),
-        0x50 => holds(x, 12, place),
-        0x51 => holds(x, 13, place),
+        0x41 => jump(x, i.imm as usize),
+        0x50..=0x51 => holds(x, op),
         _ => Eff::Leave,
     }
 }
@@ -215,10 +173,13 @@ fn run_body(
             };
         }
         let i = frame::decode(table[base + place]);
-        let e = effect_of(i, place, &*cells);
+        let e = effect_of(i, &*cells);
         match e {
             Eff::Put(at, v) => {
                 put_cell(cells, at, v);
+                place = place + 1;
+            }
+            Eff::Next => {
                 place = place + 1;
             }
             Eff::Go(to) => {

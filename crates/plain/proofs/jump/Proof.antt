@@ -3,14 +3,13 @@ use borrow.Author.Needs.{needs}
 use Rattle.plain.proofs.jump.Statement.{statement}
 use Rattle.plain.proofs.jump.Tie as tie
 
-add-t5 : tie.Need-add-t5
-add-t5 c = search needs
-
+-- src/lib.rt:74:9
 returns : tie.Need-returns
 returns c = search (jump-not, jump-taken, needs)
 
+-- src/lib.rt:70:1
 returns-2 : tie.Need-returns-2
 returns-2 c = search (jump-not, jump-taken, needs)
 
 pub jump-spec : {M : Type 1} → statement M
-jump-spec = tie.close (tie.spec add-t5 returns returns-2)
+jump-spec = tie.close (tie.spec returns returns-2)
