@@ -11,8 +11,12 @@ use lib.ListN.{length, getD, set, List·getD-eq-default}
 use lib.Seq.{set-out}
 use Rattle.laws.specs.Choice.{if_then_else_}
 use Rattle.laws.specs.Span.{Arm, Each, AllTold, Rest, Outside, in-span, the-rest}
-use Rattle.word.specs.Word.{Result, value, stop}
+use lib.IntN.{ℤ}
+use mir.Syntax.{w32, w64}
+use mir.Val.{toZ, ofZ, Fits}
+use Rattle.word.specs.Word.{Result, value, stop, signed, narrow}
 use Rattle.word.specs.Said.{said}
+use Rattle.word.proofs.Operands.{Roomy, exact}
 use Rattle.word.specs.declared.Outcome.{Outcome}
 use Rattle.word.specs.declared.Outcome.the-variants.{Value, ZeroDivisor, OutOfRange}
 use Rattle.frame.specs.declared.Frame.{Frame}
@@ -42,6 +46,10 @@ module _ (d : ℕ) (r : Outcome) where
   pub put-range : r ≡ OutOfRange → Stop 15 ≡ putOf d (said r)
   unfolding said
   put-range e = rw e
+
+-- an i64 operation on two cells' numbers gives the exact result, so that is what is narrowed
+pub put-exact : (f : ℤ → ℤ → ℤ) → Roomy f → (d x y : ℕ) (a b : ℤ) → Fits w32 x → Fits w32 y → a ≡ signed 32 x → b ≡ signed 32 y → (e : Eff) → e ≡ putOf d (narrow 32 (toZ w64 (ofZ w64 (f (toZ w64 (ofZ w64 a)) (toZ w64 (ofZ w64 b)))))) → e ≡ putOf d (narrow 32 (f (signed 32 x) (signed 32 y)))
+put-exact f roomy d x y a b fx fy ea eb e q = q ∙ ap (λ (z : ℤ). putOf d (narrow 32 z)) (exact f roomy x y a b fx fy ea eb)
 
 module _ (i : Frame) (cs : List ℕ) (v x : ℕ) (e : x ≡ v) where
   pub load-out : i .b ≤ x → Stop 16 ≡ loadOf i v cs

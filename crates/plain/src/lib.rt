@@ -4,6 +4,7 @@ use word::Outcome;
 ghost use mathlib.Core.Path.{_≡_};
 ghost use Prim.Native.Nat.{_+_, _-_, _≤_, _<_};
 ghost use lib.ListN.{length, getD, set};
+ghost use Rattle.word.specs.Word.{narrow, addS, subS, mulS};
 ghost use Rattle.word.specs.Said.{said};
 ghost use Rattle.plain.specs.Plain.{Comes, putOf, loadOf, storeOf, jumpOf, holdOf, plain, runPlain};
 
@@ -26,6 +27,39 @@ fn put(d: usize, r: Outcome) -> Eff
         Outcome::ZeroDivisor => Eff::Stop(14),
         Outcome::OutOfRange => Eff::Stop(15),
     }
+}
+
+// Cell d takes a signed result where the range has it. The result is tested here and not in `word`, because an effect, unlike an
+// outcome, is too large for the compiler to carry it through the test as one number.
+fn put_signed(d: usize, s: i64) -> Eff
+    ensures { λ e. ⌜ e ≡ putOf d (narrow 32 s) ⌝ }
+{
+    if s < -2147483648 {
+        return Eff::Stop(15);
+    }
+    if 2147483647 < s {
+        return Eff::Stop(15);
+    }
+    Eff::Put(d, word::as_cell(s as i32))
+}
+
+// An i64 holds a sum, a difference and a product of two cells.
+fn sum(d: usize, x: u32, y: u32) -> Eff
+    ensures { λ e. ⌜ e ≡ putOf d (addS 32 x y) ⌝ }
+{
+    put_signed(d, word::wide(x) + word::wide(y))
+}
+
+fn difference(d: usize, x: u32, y: u32) -> Eff
+    ensures { λ e. ⌜ e ≡ putOf d (subS 32 x y) ⌝ }
+{
+    put_signed(d, word::wide(x) - word::wide(y))
+}
+
+fn product(d: usize, x: u32, y: u32) -> Eff
+    ensures { λ e. ⌜ e ≡ putOf d (mulS 32 x y) ⌝ }
+{
+    put_signed(d, word::wide(x) * word::wide(y))
 }
 
 // A cell; past the cells it is 0.
@@ -104,9 +138,9 @@ fn effect_of(i: Frame, cells: &[u32]) -> Eff
         0x12 => Eff::Put(d, word::mul_u(x, y)),
         0x13 => put(d, word::quot_u(x, y)),
         0x14 => put(d, word::rem_u(x, y)),
-        0x18 => put(d, word::add_s(x, y)),
-        0x19 => put(d, word::sub_s(x, y)),
-        0x1a => put(d, word::mul_s(x, y)),
+        0x18 => sum(d, x, y),
+        0x19 => difference(d, x, y),
+        0x1a => product(d, x, y),
         0x1b => put(d, word::quot_s(x, y)),
         0x1c => put(d, word::rem_s(x, y)),
         0x20 => Eff::Put(d, word::and_b(x, y)),

@@ -10,7 +10,7 @@ use lib.Signed.{mag}
 use mir.Syntax.{Width, w32, w64}
 use mir.Val.{toZ, ofZ, hbits, Fits, SFits}
 use mir.ValLaws.{toZ-ofZ}
-use Rattle.word.specs.Word.{Result, signed, narrow}
+use Rattle.word.specs.Word.{signed}
 use Rattle.word.specs.Division.{mag-minus}
 use Rattle.word.proofs.Machine.{magnitude}
 
@@ -68,10 +68,10 @@ pub product-fits : Roomy _*ℤ_
 product-fits x y fx fy =
     record { sfits = lt-of-le-of-lt (le-trans (mag-mul (signed 32 x) (signed 32 y)) (mul-le-mul {n₂ = 2 ^ 31} {m₂ = 2 ^ 31} (magnitude x fx) (magnitude y fy))) (lit< tt) }
 
--- so an i64 operation asks nothing more of two cells' numbers, and what is narrowed is the exact result
+-- so an i64 operation asks nothing more of two cells' numbers, and gives the exact result
 module _ (f : ℤ → ℤ → ℤ) (roomy : Roomy f) (x y : ℕ) (a b : ℤ) (fx : Fits w32 x) (fy : Fits w32 y) (ea : a ≡ signed 32 x) (eb : b ≡ signed 32 y) where
   pub asked : SFits w64 (f (toZ w64 (ofZ w64 a)) (toZ w64 (ofZ w64 b)))
   asked = asks w64 (lit≤ tt) fx fy ea eb f (roomy x y fx fy)
 
-  pub narrowed-exact : (r : Result) → r ≡ narrow 32 (toZ w64 (ofZ w64 (f (toZ w64 (ofZ w64 a)) (toZ w64 (ofZ w64 b))))) → r ≡ narrow 32 (f (signed 32 x) (signed 32 y))
-  narrowed-exact r e = e ∙ ap (narrow 32) (gives w64 (lit≤ tt) fx fy ea eb f (roomy x y fx fy))
+  pub exact : toZ w64 (ofZ w64 (f (toZ w64 (ofZ w64 a)) (toZ w64 (ofZ w64 b)))) ≡ f (signed 32 x) (signed 32 y)
+  exact = gives w64 (lit≤ tt) fx fy ea eb f (roomy x y fx fy)

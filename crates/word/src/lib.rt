@@ -3,7 +3,7 @@
 ghost use mathlib.Core.Path.{_≡_};
 ghost use lib.Signed.{quotZ};
 ghost use Rattle.word.specs.Said.{said};
-ghost use Rattle.word.specs.Word.{addU, subU, mulU, quotU, remU, signed, bitsOf, inRange, narrow, addS, subS, mulS, quotS, remS, andB, orB, notB, equal, differ, ltU, leU, ltS, leS, isZero};
+ghost use Rattle.word.specs.Word.{addU, subU, mulU, quotU, remU, signed, bitsOf, inRange, quotS, remS, andB, orB, notB, equal, differ, ltU, leU, ltS, leS, isZero};
 
 // What an operation that can stop the run answers: a value for the cell, or which of the two stops.
 pub enum Outcome {
@@ -66,7 +66,7 @@ fn as_signed(x: u32) -> i32
 }
 
 // The cell that stands for a number: the way back.
-fn as_cell(s: i32) -> u32
+pub fn as_cell(s: i32) -> u32
     ensures { λ r. ⌜ r ≡ bitsOf 32 s ⌝ }
 {
     if s < 0 {
@@ -76,41 +76,10 @@ fn as_cell(s: i32) -> u32
 }
 
 // The number that a cell stands for, with room for a sum, a difference or a product of two.
-fn wide(x: u32) -> i64
+pub fn wide(x: u32) -> i64
     ensures { λ r. ⌜ r ≡ signed 32 x ⌝ }
 {
     as_signed(x) as i64
-}
-
-// A signed result: its cell where the range has it.
-fn narrowed(s: i64) -> Outcome
-    ensures { λ r. ⌜ said r ≡ narrow 32 s ⌝ }
-{
-    if s < -2147483648 {
-        return Outcome::OutOfRange;
-    }
-    if 2147483647 < s {
-        return Outcome::OutOfRange;
-    }
-    Outcome::Value(as_cell(s as i32))
-}
-
-pub fn add_s(x: u32, y: u32) -> Outcome
-    ensures { λ r. ⌜ said r ≡ addS 32 x y ⌝ }
-{
-    narrowed(wide(x) + wide(y))
-}
-
-pub fn sub_s(x: u32, y: u32) -> Outcome
-    ensures { λ r. ⌜ said r ≡ subS 32 x y ⌝ }
-{
-    narrowed(wide(x) - wide(y))
-}
-
-pub fn mul_s(x: u32, y: u32) -> Outcome
-    ensures { λ r. ⌜ said r ≡ mulS 32 x y ⌝ }
-{
-    narrowed(wide(x) * wide(y))
 }
 
 // Whether an i32 holds the quotient of two. It holds all but that of the lower end of the range by -1, one past the upper end.

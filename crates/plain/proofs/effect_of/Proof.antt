@@ -65,44 +65,35 @@ put-requires-2 : tie.Need-put-requires-2
 put-requires-2 c κs = search needs
 
 -- src/lib.rt:107:24
-add-s-requires : tie.Need-add-s-requires
-add-s-requires c κs = search needs
+sum-requires : tie.Need-sum-requires
+sum-requires c κs = search needs
 
 -- src/lib.rt:107:17
-put-requires-3 : tie.Need-put-requires-3
-put-requires-3 c κs = search needs
-
 -- src/lib.rt:108:24
-sub-s-requires : tie.Need-sub-s-requires
-sub-s-requires c κs = search needs
+difference-requires : tie.Need-difference-requires
+difference-requires c κs = search needs
 
 -- src/lib.rt:108:17
-put-requires-4 : tie.Need-put-requires-4
-put-requires-4 c κs = search needs
-
 -- src/lib.rt:109:24
-mul-s-requires : tie.Need-mul-s-requires
-mul-s-requires c κs = search needs
+product-requires : tie.Need-product-requires
+product-requires c κs = search needs
 
 -- src/lib.rt:109:17
-put-requires-5 : tie.Need-put-requires-5
-put-requires-5 c κs = search needs
-
 -- src/lib.rt:110:24
 quot-s-requires : tie.Need-quot-s-requires
 quot-s-requires c κs = search needs
 
 -- src/lib.rt:110:17
-put-requires-6 : tie.Need-put-requires-6
-put-requires-6 c κs = search needs
+put-requires-3 : tie.Need-put-requires-3
+put-requires-3 c κs = search needs
 
 -- src/lib.rt:111:24
 rem-s-requires : tie.Need-rem-s-requires
 rem-s-requires c κs = search needs
 
 -- src/lib.rt:111:17
-put-requires-7 : tie.Need-put-requires-7
-put-requires-7 c κs = search needs
+put-requires-4 : tie.Need-put-requires-4
+put-requires-4 c κs = search needs
 
 -- src/lib.rt:112:29
 and-b-requires : tie.Need-and-b-requires
@@ -153,8 +144,8 @@ store-of-requires : tie.Need-store-of-requires
 store-of-requires c κs = search needs
 
 -- src/lib.rt:124:25
-cast-t33 : tie.Need-cast-t33
-cast-t33 c = search needs
+cast-t30 : tie.Need-cast-t30
+cast-t30 c = search needs
 
 -- src/lib.rt:125:25
 cast-jump : tie.Need-cast-jump
@@ -205,27 +196,27 @@ returns-7 c = is-made _ _ _ _ (search needs) (search needs) 0x14 (c .before .bef
 -- src/lib.rt:91:1
 returns-8 : tie.Need-returns-8
 unfolding meaningOf
-returns-8 c = is-made _ _ _ _ (search needs) (search needs) 0x18 (c .before .before .match .keys8) refl _ (said _) (c .before .add-s .ensures) (c .put3 .ensures)
+returns-8 c = is-made _ _ _ _ (search needs) (search needs) 0x18 (c .before .match .keys8) refl _ _ refl (c .sum .ensures)
 
 -- src/lib.rt:91:1
 returns-9 : tie.Need-returns-9
 unfolding meaningOf
-returns-9 c = is-made _ _ _ _ (search needs) (search needs) 0x19 (c .before .before .match .keys9) refl _ (said _) (c .before .sub-s .ensures) (c .put4 .ensures)
+returns-9 c = is-made _ _ _ _ (search needs) (search needs) 0x19 (c .before .match .keys9) refl _ _ refl (c .difference .ensures)
 
 -- src/lib.rt:91:1
 returns-10 : tie.Need-returns-10
 unfolding meaningOf
-returns-10 c = is-made _ _ _ _ (search needs) (search needs) 0x1a (c .before .before .match .keys10) refl _ (said _) (c .before .mul-s .ensures) (c .put5 .ensures)
+returns-10 c = is-made _ _ _ _ (search needs) (search needs) 0x1a (c .before .match .keys10) refl _ _ refl (c .product .ensures)
 
 -- src/lib.rt:91:1
 returns-11 : tie.Need-returns-11
 unfolding meaningOf
-returns-11 c = is-made _ _ _ _ (search needs) (search needs) 0x1b (c .before .before .match .keys11) refl _ (said _) (c .before .quot-s .ensures) (c .put6 .ensures)
+returns-11 c = is-made _ _ _ _ (search needs) (search needs) 0x1b (c .before .before .match .keys11) refl _ (said _) (c .before .quot-s .ensures) (c .put3 .ensures)
 
 -- src/lib.rt:91:1
 returns-12 : tie.Need-returns-12
 unfolding meaningOf
-returns-12 c = is-made _ _ _ _ (search needs) (search needs) 0x1c (c .before .before .match .keys12) refl _ (said _) (c .before .rem-s .ensures) (c .put7 .ensures)
+returns-12 c = is-made _ _ _ _ (search needs) (search needs) 0x1c (c .before .before .match .keys12) refl _ (said _) (c .before .rem-s .ensures) (c .put4 .ensures)
 
 -- src/lib.rt:91:1
 returns-13 : tie.Need-returns-13
@@ -323,16 +314,13 @@ effect-of-spec =
     put-requires
     rem-u-requires
     put-requires-2
-    add-s-requires
-    put-requires-3
-    sub-s-requires
-    put-requires-4
-    mul-s-requires
-    put-requires-5
+    sum-requires
+    difference-requires
+    product-requires
     quot-s-requires
-    put-requires-6
+    put-requires-3
     rem-s-requires
-    put-requires-7
+    put-requires-4
     and-b-requires
     or-b-requires
     not-b-requires
@@ -345,7 +333,7 @@ effect-of-spec =
     is-zero-requires
     load-of-requires
     store-of-requires
-    cast-t33
+    cast-t30
     cast-jump
     jump-requires
     holds-requires

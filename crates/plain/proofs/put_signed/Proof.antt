@@ -1,25 +1,24 @@
 use borrow.Author.Needs.{needs}
 use native.Mathlib.Omega.{arith}
 use Prim.Native.Nat.{_<_, _^_}
-use mathlib.Core.Path.{ap, _∙_}
+use mathlib.Core.Path.{_≡_, ap, _∙_}
 use mathlib.Core.Logic.{⊎-elim}
 use lib.Signed.{mag}
 use mir.Syntax.{w32, w64}
 use mir.ValLaws.{toZ-ofZ}
-use Rattle.word.specs.Said.{said}
-use Rattle.word.specs.Word.{narrow, bitsOf, value}
+use Rattle.word.specs.Word.{narrow, bitsOf}
 use Rattle.word.specs.TwosComplement.{in-range, out-of-range}
 use Rattle.word.proofs.Signs.{under, over, within}
-use Rattle.word.proofs.narrowed.Statement.{statement}
-use Rattle.word.proofs.narrowed.Tie as tie
+use Rattle.plain.proofs.put_signed.Statement.{statement}
+use Rattle.plain.proofs.put_signed.Tie as tie
 
 returns : tie.Need-returns
-unfolding said narrow
+unfolding narrow
 returns c =
     rw (out-of-range 32 (c .before .args .s) (omega (arith, under (c .before .args .s) (rw (toZ-ofZ w64 _ (c .before .fits .s)) at (c .if1 .taken)))))
 
 returns-2 : tie.Need-returns-2
-unfolding said narrow
+unfolding narrow
 returns-2 c =
     rw (out-of-range 32 (c .before .before .args .s) (omega (arith, over (c .before .before .args .s) (rw (toZ-ofZ w64 _ (c .before .before .fits .s)) at (c .if2 .taken)))))
 
@@ -36,12 +35,10 @@ as-cell-requires : tie.Need-as-cell-requires
 as-cell-requires c κs = search needs
 
 returns-3 : tie.Need-returns-3
-unfolding said narrow
+unfolding narrow
 returns-3 c =
-    rw (in-range 32 (c .before .before .before .args .s) (small (c .before)))
-    (ap value
-    (c .as-cell .ensures
-    ∙ ap (bitsOf 32) (rw (toZ-ofZ w64 _ (c .before .before .before .fits .s)) (toZ-ofZ w32 _ (record { sfits = small (c .before) })))))
+    let e : c .as-cell .result ≡ bitsOf 32 (c .before .before .before .args .s) = c .as-cell .ensures ∙ ap (bitsOf 32) (rw (toZ-ofZ w64 _ (c .before .before .before .fits .s)) (toZ-ofZ w32 _ (record { sfits = small (c .before) }))) in
+    rw (in-range 32 (c .before .before .before .args .s) (small (c .before)), e)
 
-pub narrowed-spec : {M : Type 1} → statement M
-narrowed-spec = tie.close (tie.spec returns returns-2 cast-as-cell as-cell-requires returns-3)
+pub put-signed-spec : {M : Type 1} → statement M
+put-signed-spec = tie.close (tie.spec returns returns-2 cast-as-cell as-cell-requires returns-3)
