@@ -184,21 +184,14 @@ fn put_cell(cells: &mut [u32], at: usize, v: u32)
     }
 }
 
-// The loop itself, on a body that lies in the table.
-fn run_body(
-    table: &[u64],
-    base: usize,
-    len: usize,
-    from: usize,
-    budget: u32,
-    cells: &mut [u32],
-) -> Ran
-    requires { ⌜ (base + len ≤ length (now table)) × (len ≤ 1024) × (256 ≤ length (now cells)) ⌝ }
-    ensures { λ r. ⌜ record { ran = r; cells = now (cells .exit) } ≡ plain budget (now (table .entry)) base len from (now (cells .entry)) ⌝ }
+// The loop itself, on the frames of a body.
+fn run_body(body: &[u64], from: usize, budget: u32, cells: &mut [u32]) -> Ran
+    requires { ⌜ (length (now body) ≤ 1024) × (256 ≤ length (now cells)) ⌝ }
+    ensures { λ r. ⌜ record { ran = r; cells = now (cells .exit) } ≡ plain budget (now (body .entry)) 0 (length (now (body .entry))) from (now (cells .entry)) ⌝ }
 {
     let mut place = from;
     let mut left = budget;
-    while place < len {
+    while place < body.len() {
         if left == 0 {
             return Ran {
                 end: End::Stopped(22),
@@ -206,7 +199,7 @@ fn run_body(
                 left: left,
             };
         }
-        let i = frame::decode(table[base + place]);
+        let i = frame::decode(body[place]);
         let e = effect_of(i, &*cells);
         match e {
             Eff::Put(at, v) => {
@@ -276,5 +269,6 @@ pub fn run_plain(
     if cells.len() < 256 {
         return not_able(from, budget);
     }
-    run_body(table, base, len, from, budget, cells)
+    let end = base + len;
+    run_body(&table[base..end], from, budget, cells)
 }

@@ -14,10 +14,10 @@ use Rattle.plain.proofs.effect_of.Reads as effect-of-reads
 use Rattle.plain.proofs.put_cell.Reads as put-cell-reads
 
 abbrev Inv-loop : tie.InvT-loop
-Inv-loop table base len from budget cells₀ place₀ left₀ cells place left = (plain left table base len place cells ≡ plain budget table base len from cells₀) × (length cells ≡ length cells₀)
+Inv-loop body from budget cells₀ place₀ left₀ cells place left = (plain left body 0 (length body) place cells ≡ plain budget body 0 (length body) from cells₀) × (length cells ≡ length cells₀)
 
 abbrev μ-loop : tie.MeasureT-loop
-μ-loop table base len from budget cells₀ place₀ left₀ cells place left = left
+μ-loop body from budget cells₀ place₀ left₀ cells place left = left
 
 -- src/lib.rt:167:5
 loop-holds : tie.Need-loop-holds Inv-loop μ-loop
@@ -32,9 +32,6 @@ returns : tie.Need-returns Inv-loop μ-loop
 returns c = search (loop-laws, needs)
 
 -- src/lib.rt:175:37
-add-decode : tie.Need-add-decode Inv-loop μ-loop
-add-decode c = search needs
-
 -- src/lib.rt:175:31
 mul-decode : tie.Need-mul-decode Inv-loop μ-loop
 mul-decode c = search needs
@@ -111,7 +108,7 @@ loop-less c = search needs
 loop-again : tie.Need-loop-again Inv-loop μ-loop
 loop-again c =
     ⊎-elim (λ w. (rw (w .7, w .8) (search (loop-puts, needs)), rw (w .7) (search needs)))
-    (⊎-elim (λ w. (rw (w .2, w .3) (loop-nexts _ _ _ _ _ _ _ (c .before .before .before .before .before .before .before .loop .inv .0) (c .before .before .before .before .before .before .loop-test .taken) (search needs) _ _ (c .before .before .before .decode .ensures) (c .before .effect-of .ensures) (w .1 .given .1)), rw (w .2) (search needs)))
+    (⊎-elim (λ w. (rw (w .2, w .3) (loop-nexts _ _ _ _ _ _ (c .before .before .before .before .before .before .before .loop .inv .0) (c .before .before .before .before .before .before .loop-test .taken) (search needs) _ _ (c .before .before .before .decode .ensures) (c .before .effect-of .ensures) (w .1 .given .1)), rw (w .2) (search needs)))
     (λ w. (rw (w .3, w .4) (search (loop-goes, needs)), rw (w .3) (search needs)))) (c .match .came)
 
 -- src/lib.rt:154:1
@@ -131,7 +128,6 @@ run-body-spec =
     loop-holds
     same-length
     returns
-    add-decode
     mul-decode
     shared-slice-read-decode
     decode-requires

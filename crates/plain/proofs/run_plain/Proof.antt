@@ -1,4 +1,5 @@
-use Rattle.plain.proofs.Turns.{plain-long, plain-short, plain-past, plain-narrow, plain-runs}
+use native.Mathlib.Omega.{arith}
+use Rattle.plain.proofs.Turns.{plain-long, plain-short, plain-past, plain-narrow, body-short, plain-runs}
 use borrow.Author.Needs.{needs}
 use Rattle.plain.proofs.run_plain.Statement.{statement}
 use Rattle.plain.proofs.run_plain.Tie as tie
@@ -30,8 +31,23 @@ not-able-requires-4 c κs = search needs
 returns-4 : tie.Need-returns-4
 returns-4 c = search (plain-narrow, needs)
 
+add-end : tie.Need-add-end
+add-end c = record { fits = omega arith }
+
+mul-run-body : tie.Need-mul-run-body
+mul-run-body c = search needs
+
+sub-run-body : tie.Need-sub-run-body
+sub-run-body c = search needs
+
+part-run-body-start : tie.Need-part-run-body-start
+part-run-body-start c = search needs
+
+part-run-body-end : tie.Need-part-run-body-end
+part-run-body-end c = search needs
+
 run-body-requires : tie.Need-run-body-requires
-run-body-requires c κs = search needs
+run-body-requires c κs = search (body-short, needs)
 
 same-length : tie.Need-same-length
 same-length c = search needs
@@ -52,6 +68,11 @@ run-plain-spec =
     returns-3
     not-able-requires-4
     returns-4
+    add-end
+    mul-run-body
+    sub-run-body
+    part-run-body-start
+    part-run-body-end
     run-body-requires
     same-length
     returns-5)
