@@ -25,6 +25,14 @@ impl Image {
     pub const INSTRUCTIONS: usize = 1024;
 
     pub const LINES: usize = 1058;
+    // Main, the threads and the updates.
+    pub const BODIES: usize = 1 + Image::THREADS as usize + Image::UPDATES as usize;
+    // What a run of the image takes.
+    pub const CHOICES: usize = 4096;
+
+    pub const INPUTS: usize = 1024;
+    // Due times that can stand at once.
+    pub const DUE_TIMES: usize = 48;
 }
 
 // What the judge, the reader and the writer answer, with the line of the first fault or the count that was done.

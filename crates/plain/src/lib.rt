@@ -1,5 +1,6 @@
 // The hot path: the plain instructions of one body, on a lent table and lent cells.
 use frame::Frame;
+use image::Image;
 use word::Outcome;
 ghost use mathlib.Core.Path.{_≡_};
 ghost use Prim.Native.Nat.{_+_, _-_, _≤_, _<_};
@@ -257,7 +258,7 @@ pub fn run_plain(
 ) -> Ran
     ensures { λ r. ⌜ record { ran = r; cells = now (cells .exit) } ≡ runPlain budget (now (table .entry)) base len from (now (cells .entry)) ⌝ }
 {
-    if 1024 < len {
+    if Image::INSTRUCTIONS < len {
         return not_able(from, budget);
     }
     if table.len() < len {
@@ -266,7 +267,7 @@ pub fn run_plain(
     if table.len() - len < base {
         return not_able(from, budget);
     }
-    if cells.len() < 256 {
+    if cells.len() < Image::CELLS as usize {
         return not_able(from, budget);
     }
     let end = base + len;

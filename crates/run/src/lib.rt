@@ -1,5 +1,6 @@
 // One run of a design under given choices, inputs and budget.
 use frame::Frame;
+use image::Image;
 use phases::Due;
 use phases::Found;
 use plain::End;
@@ -267,7 +268,7 @@ fn is_full(adds: bool, q: u64, pends: &[u64], waits: &[u64]) -> bool
         return false;
     }
     if adds {
-        return 48 <= phases::count_times(pends, waits);
+        return Image::DUE_TIMES <= phases::count_times(pends, waits);
     }
     false
 }
@@ -945,11 +946,11 @@ fn run_laid(
     ensures { λ r. ⌜ record { answer = said r; cells = now (cells .exit) } ≡ told budget (turns (now (table .entry)) (now (choices .entry)) (now (inputs .entry)) (now (firsts .entry)) (8 * (budget + length (now (choices .entry))) + 1) (code (firstNow budget) (firstLists threads events updates) (replicate (1 + threads + updates) 0) (now (cells .entry)))) ⌝ }
 {
     let bodies = 1 + threads + updates;
-    let mut pends = [0x1_0000_0001u64; 32];
-    let mut waits = [0x1_0000_0001u64; 16];
-    let mut modes = [0u8; 16];
-    let mut requests = [0u8; 16];
-    let mut places = [0usize; 33];
+    let mut pends = [0x1_0000_0001u64; Image::EVENTS as usize];
+    let mut waits = [0x1_0000_0001u64; Image::THREADS as usize];
+    let mut modes = [0u8; Image::THREADS as usize];
+    let mut requests = [0u8; Image::UPDATES as usize];
+    let mut places = [0usize; Image::BODIES];
     run_from(
         table,
         choices,
@@ -979,7 +980,7 @@ fn run_accepted(
     let h = frame::decode(table[0]);
     let threads = h.d as usize;
     let updates = h.b as usize;
-    let mut firsts = [0usize; 34];
+    let mut firsts = [0usize; Image::BODIES + 1];
     put_firsts(table, 1 + threads + updates, &mut firsts);
     zero_cells(cells, h.imm as usize);
     run_laid(
@@ -1015,13 +1016,13 @@ fn refusal(number: u8, line: usize) -> Answer
 pub fn run(table: &[u64], choices: &[u8], inputs: &[u32], budget: u32, cells: &mut [u32]) -> Answer
     ensures { λ r. ⌜ record { answer = said r; cells = now (cells .exit) } ≡ askedFor (jobOf (now (table .entry)) (now (choices .entry)) (now (inputs .entry)) budget) (now (cells .entry)) ⌝ }
 {
-    if 4096 < choices.len() {
+    if Image::CHOICES < choices.len() {
         return refusal(9, 1);
     }
-    if 1024 < inputs.len() {
+    if Image::INPUTS < inputs.len() {
         return refusal(9, 2);
     }
-    if cells.len() < 256 {
+    if cells.len() < Image::CELLS as usize {
         return refusal(8, 0);
     }
     let v = image::judge(table);

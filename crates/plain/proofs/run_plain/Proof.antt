@@ -25,6 +25,9 @@ not-able-requires-3 c κs = search needs
 returns-3 : tie.Need-returns-3
 returns-3 c = search (plain-past, needs)
 
+cast-if4 : tie.Need-cast-if4
+cast-if4 c = search needs
+
 not-able-requires-4 : tie.Need-not-able-requires-4
 not-able-requires-4 c κs = search needs
 
@@ -66,6 +69,7 @@ run-plain-spec =
     sub-if3
     not-able-requires-3
     returns-3
+    cast-if4
     not-able-requires-4
     returns-4
     add-end

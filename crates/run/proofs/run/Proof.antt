@@ -15,6 +15,9 @@ refusal-requires-2 c κs = search needs
 returns-2 : tie.Need-returns-2
 returns-2 c = search (asked-inputs, needs)
 
+cast-if3 : tie.Need-cast-if3
+cast-if3 c = search needs
+
 refusal-requires-3 : tie.Need-refusal-requires-3
 refusal-requires-3 c κs = search needs
 
@@ -53,6 +56,7 @@ run-spec =
     returns
     refusal-requires-2
     returns-2
+    cast-if3
     refusal-requires-3
     returns-3
     judge-requires
