@@ -8,12 +8,13 @@ use borrow.Author.Tests.{not-true, not-false, ltb-true, lt-ltb, le-ltb, le-leb, 
 use lib.Dec.{eqb, ltb, leb}
 use lib.ListN.{length, getD, set, List·getD-eq-default}
 use lib.Seq.{set-out}
-use Rattle.laws.specs.Choice.{if_then_else_}
+use Rattle.laws.specs.Choice.{if_then_else_, and-left}
 use Rattle.frame.specs.declared.Frame.{Frame}
 use Rattle.frame.specs.Fields.{fields}
 use Rattle.frame.specs.Ops.{meaningOf}
 use Rattle.kernel.specs.Search.{Found, none, found, nth, any, first}
 use Rattle.kernel.proofs.Search.{first-found}
+use Rattle.phases.proofs.Loops.{any-found}
 use Rattle.phases.specs.declared.Found.{Found as FoundCode}
 use Rattle.phases.specs.declared.Found.the-variants.{At as FoundAt, Nothing as FoundNothing}
 use Rattle.phases.specs.declared.Due.{Due as DueCode}
@@ -27,11 +28,13 @@ use Rattle.plain.specs.Plain.{Out, runPlain}
 use Rattle.plain.specs.Laws.{Inside, left-inside}
 use Rattle.run.specs.declared.Control.{Control}
 use Rattle.run.specs.declared.Control.the-variants.{Runs, UpdatePhase, DeltaPhase, Turn, Evaluation, TimePhase, Over}
+use Rattle.run.specs.declared.Choice.{Choice}
+use Rattle.run.specs.declared.Choice.the-variants.{Thread, Refused}
 use Rattle.run.specs.declared.Now.{Now}
 use Rattle.run.specs.declared.Obeyed.{Obeyed}
 use Rattle.run.specs.declared.Obeyed.the-variants.{Stops, Goes, Took, Begins}
 use Rattle.run.specs.Stands.{Lists, lists}
-use Rattle.run.specs.Code.{goesTo, dispatch, chosenBy, evaluated, asked, entersTo, entersAt, servedTo, turned, leastOf, closed, movedTo, timedBy, servedBy, phaseNumber, endsTo, endsIn, Did, did, isPast, tookBy, waitsIn, timesIn, full, dueBy, inTime, startsBy, code, obeyed, staysAt, nextInput, withLeft, completedTo, completedAt, completed, ranTo, afterPlain, bodyRun, turnFrom, turn, isOver, turns, Code}
+use Rattle.run.specs.Code.{goesTo, dispatch, chosenBy, choiceBy, idleOr, evaluated, asked, entersTo, entersAt, servedTo, turned, leastOf, closed, movedTo, timedBy, servedBy, phaseNumber, endsTo, endsIn, Did, did, isPast, tookBy, waitsIn, timesIn, full, dueBy, inTime, startsBy, code, obeyed, staysAt, nextInput, withLeft, completedTo, completedAt, completed, ranTo, afterPlain, bodyRun, turnFrom, turn, isOver, turns, Code}
 
 -- place i of a list
 nth-past : (l : List ℕ) (i : ℕ) → length l ≤ i → nth l i ≡ none
@@ -46,30 +49,78 @@ nth-at [] i h = absurd (omega arith)
 nth-at (x ∷ l) zero h = refl
 nth-at (x ∷ l) (suc i) h = nth-at l i (omega arith)
 
+nth-there : (l : List ℕ) (i d : ℕ) → nth l i ≡ found d → i < length l
+unfolding nth
+nth-there [] i d e =
+    let z : _≡_ {A = ℕ} 0 1 = cc in
+    absurd (omega arith)
+nth-there (x ∷ l) zero d e = omega arith
+nth-there (x ∷ l) (suc i) d e = omega (arith, nth-there l i d e)
+
 pub set-past : (l : List ℕ) (i v : ℕ) → length l ≤ i → l ≡ set l i v
 set-past l i v h = sym (set-out l i v h)
 
 -- Evaluation
-module _ (choices : List ℕ) (n : Now) (ws ms : List ℕ) (a : Bool) (h : a ≡ any (mayRun ws ms) (length ws)) where
-  pub evaluated-idle : (x : Now) → x ≡ goesTo UpdatePhase n → not a ≡ true → x ≡ evaluated choices n ws ms
+module _ (choices : List ℕ) (at : ℕ) (ws ms : List ℕ) where
+  pub choice-none : length choices ≤ at → Refused 20 ≡ choiceBy (nth choices at) ws ms
+  choice-none g = rw (nth-past choices at g)
+
+  module _ (g : at < length choices) (c : ℕ) (q : c ≡ getD choices at 0) (b : Bool) (f : b ≡ mayRun ws ms c) where
+    pub choice-taken : b ≡ true → Thread (getD choices at 0) ≡ choiceBy (nth choices at) ws ms
+    choice-taken r = rw (nth-at choices at g, ← q, ← f, r)
+
+    pub choice-refused : b ≡ false → Refused 21 ≡ choiceBy (nth choices at) ws ms
+    choice-refused r = rw (nth-at choices at g, ← q, ← f, r)
+
+pub ruleset choice-laws = (choice-none, choice-taken, choice-refused)
+
+module _ (n : Now) (k : ℕ) (ws ms : List ℕ) (a : Bool) (h : a ≡ any (mayRun ws ms) (length ws)) (x : Now) where
+  pub not-idle : x ≡ goesTo (Over k 0xff 0) n → a ≡ true → x ≡ idleOr k n ws ms
+  not-idle y e = rw (← h, e) y
+
+  pub is-idle : x ≡ goesTo UpdatePhase n → a ≡ false → x ≡ idleOr k n ws ms
+  is-idle y e = rw (← h, e) y
+
+module _ (choices : List ℕ) (n : Now) (ws ms : List ℕ) (r : Choice) (h : r ≡ choiceBy (nth choices (n .chosen)) ws ms) where
+  -- a thread that may run is one of them
+  one-of : (c : ℕ) → mayRun ws ms c ≡ true → any (mayRun ws ms) (length ws) ≡ true
+  unfolding mayRun
+  one-of c e = sym (any-found (mayRun ws ms) c (length ws) true (sym e) refl (ltb-true c (length ws) (and-left (ltb c (length ws)) _ e)))
+
+  pub choice-there : (c : ℕ) → r ≡ Thread c → n .chosen < length choices
+  choice-there c e = by (nth choices (n .chosen)) refl (sym h ∙ e)
+    where
+      by : (f : Found) → nth choices (n .chosen) ≡ f → choiceBy f ws ms ≡ Thread c → n .chosen < length choices
+      by none g y =
+          let z : _≡_ {A = ℕ} 0 1 = cc in
+          absurd (omega arith)
+      by (found d) g y = nth-there choices (n .chosen) d g
+
+  pub evaluated-chosen : (c d : ℕ) → r ≡ Thread c → d ≡ c → dispatch d n ≡ evaluated choices n ws ms
   unfolding evaluated
-  evaluated-idle x y e = rw (← h, not-true a e) y
+  evaluated-chosen c d e q = ap (λ (i : ℕ). dispatch i n) q ∙ by (nth choices (n .chosen)) refl (sym h ∙ e)
+    where
+      named : (d : ℕ) (z : Bool) → mayRun ws ms d ≡ z → (if z then Thread d else Refused 21) ≡ Thread c → dispatch c n ≡ (if any (mayRun ws ms) (length ws) then (if z then dispatch d n else goesTo (Over 21 0xff 0) n) else goesTo UpdatePhase n)
+      named d true q y = rw (one-of d q) (ap (λ (i : ℕ). dispatch i n) cc)
+      named d false q y = cc
 
-  module _ (e : not a ≡ false) where
-    pub evaluated-unchosen : (x : Now) → x ≡ goesTo (Over 20 0xff 0) n → length choices ≤ n .chosen → x ≡ evaluated choices n ws ms
-    unfolding evaluated
-    evaluated-unchosen x y g = rw (← h, not-false a e, nth-past choices (n .chosen) g) y
+      by : (f : Found) → nth choices (n .chosen) ≡ f → choiceBy f ws ms ≡ Thread c → dispatch c n ≡ (if any (mayRun ws ms) (length ws) then chosenBy f n ws ms else goesTo UpdatePhase n)
+      by none g y = cc
+      by (found d) g y = named d (mayRun ws ms d) refl y
 
-    module _ (g : n .chosen < length choices) (c : ℕ) (q : c ≡ getD choices (n .chosen) 0) (b : Bool) (f : b ≡ mayRun ws ms c) where
-      pub evaluated-refused : (x : Now) → x ≡ goesTo (Over 21 0xff 0) n → not b ≡ true → x ≡ evaluated choices n ws ms
-      unfolding evaluated
-      evaluated-refused x y r = rw (← h, not-false a e, nth-at choices (n .chosen) g, ← q, ← f, not-true b r) y
+  pub evaluated-refused : (k : ℕ) (x : Now) → r ≡ Refused k → x ≡ idleOr k n ws ms → x ≡ evaluated choices n ws ms
+  unfolding evaluated
+  evaluated-refused k x e y = y ∙ by (nth choices (n .chosen)) refl (sym h ∙ e)
+    where
+      named : (d : ℕ) (z : Bool) → (if z then Thread d else Refused 21) ≡ Refused k → (if z then dispatch d n else goesTo (Over 21 0xff 0) n) ≡ goesTo (Over k 0xff 0) n
+      named d true y = cc
+      named d false y = ap (λ (i : ℕ). goesTo (Over i 0xff 0) n) cc
 
-      pub evaluated-chosen : not b ≡ false → dispatch c n ≡ evaluated choices n ws ms
-      unfolding evaluated
-      evaluated-chosen r = rw (← h, not-false a e, nth-at choices (n .chosen) g, ← q, ← f, not-false b r)
+      by : (f : Found) → nth choices (n .chosen) ≡ f → choiceBy f ws ms ≡ Refused k → idleOr k n ws ms ≡ (if any (mayRun ws ms) (length ws) then chosenBy f n ws ms else goesTo UpdatePhase n)
+      by none g y = ap (λ (i : ℕ). idleOr i n ws ms) cc
+      by (found d) g y = ap (λ (w : Now). if any (mayRun ws ms) (length ws) then w else goesTo UpdatePhase n) (sym (named d (mayRun ws ms d) y))
 
-pub ruleset evaluated-laws = (evaluated-idle, evaluated-unchosen, evaluated-refused, evaluated-chosen)
+pub ruleset evaluated-laws = (evaluated-chosen, evaluated-refused)
 
 -- The update phase
 module _ (t : ℕ) (rs ps : List ℕ) (n : Now) (r : FoundCode) (h : foundOf r ≡ first (requestedAt rs) (length rs)) where

@@ -18,6 +18,8 @@ use Rattle.plain.specs.declared.End.the-variants.{Ended, Left, Stopped}
 use Rattle.plain.specs.Plain.{Out, runPlain}
 use Rattle.run.specs.declared.Control.{Control}
 use Rattle.run.specs.declared.Control.the-variants.{Runs, UpdatePhase, DeltaPhase, Turn, Evaluation, TimePhase, Over}
+use Rattle.run.specs.declared.Choice.{Choice}
+use Rattle.run.specs.declared.Choice.the-variants.{Thread, Refused}
 use Rattle.run.specs.declared.Now.{Now}
 use Rattle.run.specs.declared.Answer.{Answer}
 use Rattle.run.specs.declared.Obeyed.{Obeyed}
@@ -53,6 +55,14 @@ chosenBy (found c) n ws ms = if mayRun ws ms c then dispatch c n else goesTo (Ov
 unfoldable pub evaluated : (choices : List ℕ) → Now → (ws ms : List ℕ) → Now
 evaluated choices n ws ms =
     if any (mayRun ws ms) (length ws) then chosenBy (nth choices (n .chosen)) n ws ms else goesTo UpdatePhase n
+
+-- what the next choice comes to while a thread is runnable; and what follows where it stops the run with k
+abbrev pub choiceBy : Found → (ws ms : List ℕ) → Choice
+choiceBy none ws ms = Refused 20
+choiceBy (found c) ws ms = if mayRun ws ms c then Thread c else Refused 21
+
+abbrev pub idleOr : (k : ℕ) → Now → (ws ms : List ℕ) → Now
+idleOr k n ws ms = if any (mayRun ws ms) (length ws) then goesTo (Over k 0xff 0) n else goesTo UpdatePhase n
 
 -- The update phase; t is the number of threads ----------------------------------------------------------------
 

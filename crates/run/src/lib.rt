@@ -19,7 +19,7 @@ ghost use Rattle.phases.specs.Phases.{changed, earlierCode, freedCode, resumedC
 ghost use Rattle.plain.specs.Plain.{runPlain};
 ghost use Rattle.plain.specs.Laws.{Inside};
 ghost use Rattle.run.specs.Stands.{lists, Firsts};
-ghost use Rattle.run.specs.Code.{Code, code, goesTo, evaluated, asked, entersTo, entersAt, servedTo, turned, leastOf, closed, movedTo, timedBy, servedBy, phaseNumber, isThread, endsTo, endsIn, did, isPast, waitsIn, full, dueBy, tookBy, inTime, startsBy, obeyed, staysAt, nextInput, withLeft, completedTo, completedAt, completed, ranTo, afterPlain, bodyRun, turn, isOver, turns, firstNow, firstLists, zeroed, jobOf, said, refusedAt, answerAs, answered, told};
+ghost use Rattle.run.specs.Code.{Code, code, goesTo, choiceBy, idleOr, evaluated, asked, entersTo, entersAt, servedTo, turned, leastOf, closed, movedTo, timedBy, servedBy, phaseNumber, isThread, endsTo, endsIn, did, isPast, waitsIn, full, dueBy, tookBy, inTime, startsBy, obeyed, staysAt, nextInput, withLeft, completedTo, completedAt, completed, ranTo, afterPlain, bodyRun, turn, isOver, turns, firstNow, firstLists, zeroed, jobOf, said, refusedAt, answerAs, answered, told};
 ghost use Rattle.image.specs.Layout.{bodies as bodiesOf};
 ghost use Rattle.image.specs.Judge.{judged};
 ghost use Rattle.kernel.specs.Run.{runs, asked as askedFor};
@@ -77,29 +77,52 @@ fn named(choice: u8) -> usize
     choice as usize
 }
 
-// Evaluation: the next choice names the thread that is dispatched.
+// What the next choice comes to while a thread is runnable: the thread that is dispatched, or the number that the run stops with.
+enum Choice {
+    Thread(u8),
+    Refused(u8),
+}
+
+fn next_choice(choices: &[u8], at: usize, waits: &[u64], modes: &[u8]) -> Choice
+    ensures { λ r. ⌜ r ≡ choiceBy (nth (now (choices .entry)) at) (now (waits .entry)) (now (modes .entry)) ⌝ }
+{
+    if choices.len() <= at {
+        return Choice::Refused(20);
+    }
+    let c = choices[at];
+    if phases::runnable(waits, modes, named(c)) {
+        return Choice::Thread(c);
+    }
+    Choice::Refused(21)
+}
+
+// The update phase where no thread is runnable, else the run is over with k.
+fn idle_or(n: Now, k: u8, waits: &[u64], modes: &[u8]) -> Now
+    ensures { λ r. ⌜ r ≡ idleOr k n (now (waits .entry)) (now (modes .entry)) ⌝ }
+{
+    if phases::any_runnable(waits, modes) {
+        return to(n, Control::Over(k, 0xff, 0));
+    }
+    to(n, Control::UpdatePhase)
+}
+
+// Evaluation: the next choice names the thread that is dispatched. Where it names a runnable one, no other need be looked at.
 fn evaluate(choices: &[u8], n: Now, waits: &[u64], modes: &[u8]) -> Now
     ensures { λ r. ⌜ r ≡ evaluated (now (choices .entry)) n (now (waits .entry)) (now (modes .entry)) ⌝ }
 {
-    if !phases::any_runnable(waits, modes) {
-        return to(n, Control::UpdatePhase);
-    }
     let at = n.chosen;
-    if choices.len() <= at {
-        return to(n, Control::Over(20, 0xff, 0));
-    }
-    let c = named(choices[at]);
-    if !phases::runnable(waits, modes, c) {
-        return to(n, Control::Over(21, 0xff, 0));
-    }
-    Now {
-        control: Control::Runs(c + 1),
-        time: n.time,
-        limit: n.limit,
-        stage: n.stage,
-        left: n.left,
-        chosen: at + 1,
-        taken: n.taken,
+    let choice = next_choice(choices, at, waits, modes);
+    match choice {
+        Choice::Thread(c) => Now {
+            control: Control::Runs(named(c) + 1),
+            time: n.time,
+            limit: n.limit,
+            stage: n.stage,
+            left: n.left,
+            chosen: at + 1,
+            taken: n.taken,
+        },
+        Choice::Refused(k) => idle_or(n, k, waits, modes),
     }
 }
 

@@ -1,61 +1,51 @@
-use Rattle.run.proofs.Arms.{evaluated-laws}
+use Prim.Native.Nat.{_<_}
+use lib.ListN.{length}
+use native.Mathlib.Omega.{arith}
+use Rattle.run.proofs.Arms.{choice-there, evaluated-laws}
 use borrow.Author.Needs.{needs}
 use Rattle.run.proofs.evaluate.Statement.{statement}
 use Rattle.run.proofs.evaluate.Tie as tie
 
-any-runnable-requires : tie.Need-any-runnable-requires
-any-runnable-requires c κs = search needs
+next-choice-requires : tie.Need-next-choice-requires
+next-choice-requires c κs = search needs
 
-to-requires : tie.Need-to-requires
-to-requires c κs = search needs
-
-returns : tie.Need-returns
-returns c = search (evaluated-laws, needs)
-
-to-requires-2 : tie.Need-to-requires-2
-to-requires-2 c κs = search needs
-
-returns-2 : tie.Need-returns-2
-returns-2 c = search (evaluated-laws, needs)
-
-shared-slice-read-named : tie.Need-shared-slice-read-named
-shared-slice-read-named c = search needs
+enum-known-choice : tie.Need-enum-known-choice
+enum-known-choice c = search needs
 
 named-requires : tie.Need-named-requires
 named-requires c κs = search needs
 
-runnable-requires : tie.Need-runnable-requires
-runnable-requires c κs = search needs
+add-t11 : tie.Need-add-t11
+add-t11 c = search needs
 
-to-requires-3 : tie.Need-to-requires-3
-to-requires-3 c κs = search needs
+there : (c : tie.After-named) → c .before .before .before .before .before .before .before .before .args .n .chosen < length (c .before .before .before .before .before .before .before .before .args .choices .now)
+there c = search (choice-there, needs)
 
-returns-3 : tie.Need-returns-3
-returns-3 c = search (evaluated-laws, needs)
+add-t13 : tie.Need-add-t13
+add-t13 c = record { fits = omega (arith, there c) }
 
-add-t10 : tie.Need-add-t10
-add-t10 c = search needs
+enum-known-choice-2 : tie.Need-enum-known-choice-2
+enum-known-choice-2 c = search needs
 
-add-t16 : tie.Need-add-t16
-add-t16 c = search needs
+idle-or-requires : tie.Need-idle-or-requires
+idle-or-requires c κs = search needs
 
-returns-4 : tie.Need-returns-4
-returns-4 c = search (evaluated-laws, needs)
+returns : tie.Need-returns
+returns c = search (evaluated-laws, needs)
+
+returns-2 : tie.Need-returns-2
+returns-2 c = search (evaluated-laws, needs)
 
 pub evaluate-spec : {M : Type 1} → statement M
 evaluate-spec =
     tie.close
     (tie.spec
-    any-runnable-requires
-    to-requires
-    returns
-    to-requires-2
-    returns-2
-    shared-slice-read-named
+    next-choice-requires
+    enum-known-choice
     named-requires
-    runnable-requires
-    to-requires-3
-    returns-3
-    add-t10
-    add-t16
-    returns-4)
+    add-t11
+    add-t13
+    enum-known-choice-2
+    idle-or-requires
+    returns
+    returns-2)
