@@ -4,7 +4,7 @@ use mathlib.Core.Path.{_≡_, refl, sym, ap, _∙_}
 use mathlib.Core.Bool.{Bool, true, false, not, _&&_}
 use mathlib.Core.List.{List, [], _∷_, map}
 use native.Mathlib.Omega.{arith}
-use borrow.Author.Tests.{not-true, not-false, ltb-true, lt-ltb, le-ltb, le-leb, lt-leb, eq-eqb, ne-eqb}
+use borrow.Author.Tests.{not-true, not-false, ltb-true, ltb-false, lt-ltb, le-ltb, le-leb, lt-leb, eq-eqb, ne-eqb}
 use lib.Dec.{eqb, ltb, leb}
 use lib.ListN.{length, getD, set, List·getD-eq-default}
 use lib.Seq.{set-out}
@@ -12,15 +12,17 @@ use Rattle.laws.specs.Choice.{if_then_else_, and-left}
 use Rattle.frame.specs.declared.Frame.{Frame}
 use Rattle.frame.specs.Fields.{fields}
 use Rattle.frame.specs.Ops.{meaningOf}
-use Rattle.kernel.specs.Search.{Found, none, found, nth, any, first}
+use Rattle.kernel.specs.Search.{Found, none, found, nth, any, first, sum}
+use Rattle.kernel.specs.Kernel.{Due, never, delta, at}
+use Rattle.kernel.specs.Pending.{dueOf, isTime}
 use Rattle.kernel.proofs.Search.{first-found}
 use Rattle.phases.proofs.Loops.{any-found}
 use Rattle.phases.specs.declared.Found.{Found as FoundCode}
 use Rattle.phases.specs.declared.Found.the-variants.{At as FoundAt, Nothing as FoundNothing}
 use Rattle.phases.specs.declared.Due.{Due as DueCode}
 use Rattle.phases.specs.declared.Due.the-variants.{At as DueAt, Nothing as DueNothing}
-use Rattle.phases.specs.Codes.{lastTime, forNothing, foundOf, dueTime}
-use Rattle.phases.specs.Phases.{mayRun, requestedAt, servedPends, servedWaits, resumedCode, changed, earlierCode, freedCode, endCode}
+use Rattle.phases.specs.Codes.{lastTime, forNothing, foundOf, dueTime, pendOf, waitOf}
+use Rattle.phases.specs.Phases.{mayRun, pendCount, waitCount, requestedAt, servedPends, servedWaits, resumedCode, changed, earlierCode, freedCode, endCode}
 use Rattle.plain.specs.declared.End.{End}
 use Rattle.plain.specs.declared.End.the-variants.{Ended, Left, Stopped}
 use Rattle.plain.specs.declared.Ran.{Ran}
@@ -244,6 +246,38 @@ module _ (t b v : ℕ) (ws : List ℕ) where
   pub waits-update : t < b → ws ≡ waitsIn t b v ws
   unfolding waitsIn
   waits-update g = rw (le-leb 1 b (omega arith), lt-leb b t g)
+
+-- of so many no more stand
+sum-ones : (f : ℕ → ℕ) → ((i : ℕ) → f i ≤ 1) → (n : ℕ) → sum f n ≤ n
+unfolding sum
+sum-ones f h zero = omega arith
+sum-ones f h (suc n) = omega (arith, h n, sum-ones f h n)
+
+time-one : (d : Due) → isTime d ≤ 1
+time-one never = omega arith
+time-one delta = omega arith
+time-one (at t) = omega arith
+
+pub room-many : (e t : ℕ) → 48 ≤ t → false ≡ ltb (e + t) 48
+room-many e t h = sym (le-ltb (e + t) 48 (omega arith))
+
+pub room-left : (e t : ℕ) → t < 48 → ltb e (48 - t) ≡ ltb (e + t) 48
+room-left e t h = go (ltb e (48 - t)) refl
+  where
+    go : (z : Bool) → ltb e (48 - t) ≡ z → z ≡ ltb (e + t) 48
+    go true g = sym (lt-ltb (e + t) 48 (omega (arith, ltb-true e (48 - t) g)))
+    go false g = sym (le-ltb (e + t) 48 (omega (arith, ltb-false e (48 - t) g)))
+
+pub full-few : (adds : Bool) (q : ℕ) (ps ws : List ℕ) (z : Bool) → z ≡ ltb (length ps + length ws) 48 → z ≡ true → false ≡ full adds q (lists ps ws [] [])
+full-few adds q ps ws z e f =
+    let a : sum (pendCount ps) (length ps) ≤ length ps = sum-ones (pendCount ps) (λ i. time-one (pendOf (getD ps i 0))) (length ps) in
+    let b : sum (waitCount ws) (length ws) ≤ length ws = sum-ones (waitCount ws) (λ i. time-one (dueOf (waitOf (getD ws i 0)))) (length ws) in
+    rw (lt-leb 48 (sum (pendCount ps) (length ps) + sum (waitCount ws) (length ws)) (omega (arith, ltb-true (length ps + length ws) 48 (sym e ∙ f)))) (none-left (not (eqb q 0)) adds)
+  where
+    none-left : (a b : Bool) → false ≡ a && (b && false)
+    none-left true true = refl
+    none-left true false = refl
+    none-left false b = refl
 
 module _ (adds : Bool) (q : ℕ) (l : Lists) where
   pub full-delta : q ≡ 0 → false ≡ full adds q l

@@ -283,11 +283,24 @@ fn wait_for(b: usize, v: u64, waits: &mut [u64])
     }
 }
 
+// Whether so many events and threads are too few for the due times to be all there can be. Then they need not be counted.
+fn has_room(events: usize, threads: usize) -> bool
+    ensures { λ r. ⌜ r ≡ ltb (events + threads) 48 ⌝ }
+{
+    if threads < Image::DUE_TIMES {
+        return events < Image::DUE_TIMES - threads;
+    }
+    false
+}
+
 // Whether there is no room for the due time q that is to be added.
 fn is_full(adds: bool, q: u64, pends: &[u64], waits: &[u64]) -> bool
     ensures { λ r. ⌜ r ≡ full adds q (lists (now (pends .entry)) (now (waits .entry)) [] []) ⌝ }
 {
     if q == 0 {
+        return false;
+    }
+    if has_room(pends.len(), waits.len()) {
         return false;
     }
     if adds {
