@@ -36,7 +36,7 @@ use Rattle.run.specs.declared.Now.{Now}
 use Rattle.run.specs.declared.Obeyed.{Obeyed}
 use Rattle.run.specs.declared.Obeyed.the-variants.{Stops, Goes, Took, Begins}
 use Rattle.run.specs.Stands.{Lists, lists}
-use Rattle.run.specs.Code.{goesTo, dispatch, chosenBy, choiceBy, idleOr, evaluated, asked, entersTo, entersAt, servedTo, turned, leastOf, closed, movedTo, timedBy, servedBy, phaseNumber, endsTo, endsIn, Did, did, isPast, tookBy, waitsIn, timesIn, full, dueBy, inTime, startsBy, code, obeyed, staysAt, nextInput, withLeft, completedTo, completedAt, completed, ranTo, afterPlain, bodyRun, turnFrom, turn, isOver, turns, Code}
+use Rattle.run.specs.Code.{goesTo, dispatch, chosenBy, choiceBy, idleOr, evaluated, asked, entersTo, entersAt, servedTo, leastOf, closed, movedTo, timedBy, servedBy, phaseNumber, endsTo, endsIn, Did, did, isPast, tookBy, waitsIn, timesIn, full, dueBy, inTime, startsBy, code, obeyed, staysAt, nextInput, withLeft, completedTo, completedAt, completed, ranTo, afterPlain, bodyRun, firstNow, firstRan, turnFrom, turn, isOver, turns, Code}
 
 -- place i of a list
 nth-past : (l : List ℕ) (i : ℕ) → length l ≤ i → nth l i ≡ none
@@ -76,11 +76,11 @@ module _ (choices : List ℕ) (at : ℕ) (ws ms : List ℕ) where
 
 pub ruleset choice-laws = (choice-none, choice-taken, choice-refused)
 
-module _ (n : Now) (k : ℕ) (ws ms : List ℕ) (a : Bool) (h : a ≡ any (mayRun ws ms) (length ws)) (x : Now) where
-  pub not-idle : x ≡ goesTo (Over k 0xff 0) n → a ≡ true → x ≡ idleOr k n ws ms
+module _ (n : Now) (k : ℕ) (idle : Control) (ws ms : List ℕ) (a : Bool) (h : a ≡ any (mayRun ws ms) (length ws)) (x : Now) where
+  pub not-idle : x ≡ goesTo (Over k 0xff 0) n → a ≡ true → x ≡ idleOr k idle n ws ms
   not-idle y e = rw (← h, e) y
 
-  pub is-idle : x ≡ goesTo UpdatePhase n → a ≡ false → x ≡ idleOr k n ws ms
+  pub is-idle : x ≡ goesTo idle n → a ≡ false → x ≡ idleOr k idle n ws ms
   is-idle y e = rw (← h, e) y
 
 module _ (choices : List ℕ) (n : Now) (ws ms : List ℕ) (r : Choice) (h : r ≡ choiceBy (nth choices (n .chosen)) ws ms) where
@@ -98,29 +98,29 @@ module _ (choices : List ℕ) (n : Now) (ws ms : List ℕ) (r : Choice) (h : r �
           absurd (omega arith)
       by (found d) g y = nth-there choices (n .chosen) d g
 
-  pub evaluated-chosen : (c d : ℕ) → r ≡ Thread c → d ≡ c → dispatch d n ≡ evaluated choices n ws ms
+  pub evaluated-chosen : (idle : Control) (c d : ℕ) → r ≡ Thread c → d ≡ c → dispatch d n ≡ evaluated choices idle n ws ms
   unfolding evaluated
-  evaluated-chosen c d e q = ap (λ (i : ℕ). dispatch i n) q ∙ by (nth choices (n .chosen)) refl (sym h ∙ e)
+  evaluated-chosen idle c d e q = ap (λ (i : ℕ). dispatch i n) q ∙ by (nth choices (n .chosen)) refl (sym h ∙ e)
     where
-      named : (d : ℕ) (z : Bool) → mayRun ws ms d ≡ z → (if z then Thread d else Refused 21) ≡ Thread c → dispatch c n ≡ (if any (mayRun ws ms) (length ws) then (if z then dispatch d n else goesTo (Over 21 0xff 0) n) else goesTo UpdatePhase n)
+      named : (d : ℕ) (z : Bool) → mayRun ws ms d ≡ z → (if z then Thread d else Refused 21) ≡ Thread c → dispatch c n ≡ (if any (mayRun ws ms) (length ws) then (if z then dispatch d n else goesTo (Over 21 0xff 0) n) else goesTo idle n)
       named d true q y = rw (one-of d q) (ap (λ (i : ℕ). dispatch i n) cc)
       named d false q y = cc
 
-      by : (f : Found) → nth choices (n .chosen) ≡ f → choiceBy f ws ms ≡ Thread c → dispatch c n ≡ (if any (mayRun ws ms) (length ws) then chosenBy f n ws ms else goesTo UpdatePhase n)
+      by : (f : Found) → nth choices (n .chosen) ≡ f → choiceBy f ws ms ≡ Thread c → dispatch c n ≡ (if any (mayRun ws ms) (length ws) then chosenBy f n ws ms else goesTo idle n)
       by none g y = cc
       by (found d) g y = named d (mayRun ws ms d) refl y
 
-  pub evaluated-refused : (k : ℕ) (x : Now) → r ≡ Refused k → x ≡ idleOr k n ws ms → x ≡ evaluated choices n ws ms
+  pub evaluated-refused : (idle : Control) (k : ℕ) (x : Now) → r ≡ Refused k → x ≡ idleOr k idle n ws ms → x ≡ evaluated choices idle n ws ms
   unfolding evaluated
-  evaluated-refused k x e y = y ∙ by (nth choices (n .chosen)) refl (sym h ∙ e)
+  evaluated-refused idle k x e y = y ∙ by (nth choices (n .chosen)) refl (sym h ∙ e)
     where
       named : (d : ℕ) (z : Bool) → (if z then Thread d else Refused 21) ≡ Refused k → (if z then dispatch d n else goesTo (Over 21 0xff 0) n) ≡ goesTo (Over k 0xff 0) n
       named d true y = cc
       named d false y = ap (λ (i : ℕ). goesTo (Over i 0xff 0) n) cc
 
-      by : (f : Found) → nth choices (n .chosen) ≡ f → choiceBy f ws ms ≡ Refused k → idleOr k n ws ms ≡ (if any (mayRun ws ms) (length ws) then chosenBy f n ws ms else goesTo UpdatePhase n)
-      by none g y = ap (λ (i : ℕ). idleOr i n ws ms) cc
-      by (found d) g y = ap (λ (w : Now). if any (mayRun ws ms) (length ws) then w else goesTo UpdatePhase n) (sym (named d (mayRun ws ms d) y))
+      by : (f : Found) → nth choices (n .chosen) ≡ f → choiceBy f ws ms ≡ Refused k → idleOr k idle n ws ms ≡ (if any (mayRun ws ms) (length ws) then chosenBy f n ws ms else goesTo idle n)
+      by none g y = ap (λ (i : ℕ). idleOr i idle n ws ms) cc
+      by (found d) g y = ap (λ (w : Now). if any (mayRun ws ms) (length ws) then w else goesTo idle n) (sym (named d (mayRun ws ms d) y))
 
 pub ruleset evaluated-laws = (evaluated-chosen, evaluated-refused)
 
@@ -140,18 +140,6 @@ module _ (t : ℕ) (rs ps : List ℕ) (n : Now) (r : FoundCode) (h : foundOf r �
 
   pub enters-fits : (u : ℕ) → r ≡ FoundAt u → t ≤ 16 → length rs ≤ 16 → t + 1 + u < 2 ^ 64
   enters-fits u e a b = omega (arith, first-found (requestedAt rs) (length rs) u (sym h ∙ ap foundOf e) .there)
-
--- The turn
-module _ (n : Now) (ws ms : List ℕ) (a : Bool) (h : a ≡ any (mayRun ws ms) (length ws)) where
-  pub turned-on : (x : Now) → x ≡ goesTo Evaluation n → a ≡ true → x ≡ turned n ws ms
-  unfolding turned
-  turned-on x y e = rw (← h, e) y
-
-  pub turned-time : (x : Now) → x ≡ goesTo TimePhase n → a ≡ false → x ≡ turned n ws ms
-  unfolding turned
-  turned-time x y e = rw (← h, e) y
-
-pub ruleset turned-laws = (turned-on, turned-time)
 
 -- The delta phase
 pub served-lists : (ps ws ms rs p w m : List ℕ) → p ≡ servedPends 0 ps → w ≡ servedWaits 0 ps ws → m ≡ map resumedCode ms → lists p w m rs ≡ servedTo 0 (map resumedCode ms) (lists ps ws ms rs)
@@ -478,6 +466,13 @@ module _ {t : List ℕ} {base p : ℕ} {e : End} (h : e ≡ Left → Inside t ba
 pub left-there : (t : List ℕ) (base len x p : ℕ) (cs ds : List ℕ) (r : Ran) → record { ran = r; cells = ds } ≡ runPlain x t base len p cs → r .end ≡ Left → Inside t base 0 (r .place)
 left-there t base len x p cs ds r e q = let i = left-inside t base len x p cs _ e q in record { line = i .line; place = i .place }
 
+-- main's first plain instructions
+pub first-ran-is : (t fs ps qs cs ds : List ℕ) (budget base a len : ℕ) (r : Ran) (n : Now) → base ≡ getD fs 0 0 → a ≡ getD fs 1 0 → len ≡ a - base → record { ran = r; cells = ds } ≡ runPlain budget t base len 0 cs → qs ≡ set ps 0 (r .place) → n ≡ firstNow (r .left)
+    → (n ≡ firstNow (firstRan t fs budget cs .ran .left)) × (qs ≡ set ps 0 (firstRan t fs budget cs .ran .place)) × (ds ≡ firstRan t fs budget cs .cells)
+first-ran-is t fs ps qs cs ds budget base a len r n b c d e f g =
+    let o : record { ran = r; cells = ds } ≡ firstRan t fs budget cs = rw (← c, ← b, ← d) e in
+    (g ∙ ap (λ (x : Out). firstNow (x .ran .left)) o, f ∙ ap (λ (x : Out). set ps 0 (x .ran .place)) o, ap (λ (x : Out). x .cells) o)
+
 -- One turn
 module _ (table choices inputs firsts : List ℕ) (n : Now) (l : Lists) (ps cs : List ℕ) where
   abbrev here : Code
@@ -494,11 +489,11 @@ module _ (table choices inputs firsts : List ℕ) (n : Now) (l : Lists) (ps cs :
   unfolding turn
   turn-update x qs e q = rw (e, q .0, q .1)
 
-  pub turn-turn : (x : Now) → n .control ≡ Turn → x ≡ turned n (l .waits) (l .modes) → Turned (code x l ps cs)
+  pub turn-turn : (x : Now) → n .control ≡ Turn → x ≡ evaluated choices TimePhase n (l .waits) (l .modes) → Turned (code x l ps cs)
   unfolding turn
   turn-turn x e q = rw (e, q)
 
-  pub turn-evaluation : (x : Now) → n .control ≡ Evaluation → x ≡ evaluated choices n (l .waits) (l .modes) → Turned (code x l ps cs)
+  pub turn-evaluation : (x : Now) → n .control ≡ Evaluation → x ≡ evaluated choices UpdatePhase n (l .waits) (l .modes) → Turned (code x l ps cs)
   unfolding turn
   turn-evaluation x e q = rw (e, q)
 

@@ -35,9 +35,10 @@ use Rattle.run.specs.declared.Control.{Control}
 use Rattle.run.specs.declared.Control.the-variants.{Runs, UpdatePhase, DeltaPhase, Turn, Evaluation, TimePhase, Over}
 use Rattle.run.specs.declared.Now.{Now}
 use Rattle.run.specs.Stands.{Lists, lists, placeOf, limitOf, stageOf, bodyOf, Shows, Counts, Stands, Firsts}
-use Rattle.run.specs.Code.{Code, code, turn, turns, isOver, answerAs, answerFrom, answered, told, jobOf, refusedAt, firstNow, firstLists, zeroed}
+use Rattle.run.specs.Code.{Code, code, turn, turns, isOver, answerAs, answerFrom, answered, told, jobOf, refusedAt, firstNow, firstRan, started, firstLists, zeroed}
 use Rattle.run.proofs.Obeys.{sum-same}
-use Rattle.run.proofs.Turns.{StandsAt, Reaches, Given, turn-follows}
+use Rattle.run.proofs.Turns.{StandsAt, Reaches, Given, plain-turn, turn-follows}
+use Rattle.run.proofs.Bodies.{PlainRan}
 
 -- Turns ------------------------------------------------------------------------------------------------------------
 
@@ -128,14 +129,15 @@ few-threads t e =
     let z : fault t 0 ≡ 0 = a .faultless 0 (omega (arith, a .all-due, due-above t)) in
     omega (arith, few-bodies t z)
 
--- the turns of the bound, from numbers that stand for the first state, tell the run
-pub told-is : (j : Job) (lent firsts : List ℕ) (g : Given j (drop (cells (j .table)) lent) firsts) (c : Code) → StandsAt j (drop (cells (j .table)) lent) (init j) c → (k : ℕ) → bound j ≤ k → j .budget < 4294967296 → length (j .choices) ≤ 4096
+-- the turns of the bound, from numbers that stand for the first state or one after it, tell the run
+pub told-is : (j : Job) (lent firsts : List ℕ) (g : Given j (drop (cells (j .table)) lent) firsts) (m : ℕ) (c : Code) → StandsAt j (drop (cells (j .table)) lent) (steps j m (init j)) c → (k : ℕ) → bound j ≤ k → j .budget < 4294967296 → length (j .choices) ≤ 4096
     → told (j .budget) (turns (j .table) (j .choices) (j .inputs) firsts k c) ≡ runs j lent
-told-is j lent firsts g c st k h small short =
+told-is j lent firsts g m c st k h small short =
     let rest : List ℕ = drop (cells (j .table)) lent in
-    let q : Gone j rest k (init j) (turns (j .table) (j .choices) (j .inputs) firsts k c) = turns-follow j rest firsts g k (init j) c st in
-    let o : IsOver (steps j (q .count) (init j) .machine .control) = not-over j (q .count) (omega (arith, q .many)) in
-    sym (final j lent (q .count) o ∙ tells j lent rest (few-threads (j .table) (g .good)) refl (steps j (q .count) (init j)) (turns (j .table) (j .choices) (j .inputs) firsts k c) (q .stands) (few j (q .count)) small short o)
+    let q : Gone j rest k (steps j m (init j)) (turns (j .table) (j .choices) (j .inputs) firsts k c) = turns-follow j rest firsts g k (steps j m (init j)) c st in
+    let sp : StandsAt j rest (steps j (m + q .count) (init j)) (turns (j .table) (j .choices) (j .inputs) firsts k c) = subst (λ (x : State). StandsAt j rest x (turns (j .table) (j .choices) (j .inputs) firsts k c)) (sym (steps-add j (q .count) m (init j))) (q .stands) in
+    let o : IsOver (steps j (m + q .count) (init j) .machine .control) = not-over j (m + q .count) (omega (arith, q .many)) in
+    sym (final j lent (m + q .count) o ∙ tells j lent rest (few-threads (j .table) (g .good)) refl (steps j (m + q .count) (init j)) (turns (j .table) (j .choices) (j .inputs) firsts k c) sp (few j (m + q .count)) small short o)
 
 -- The first state ---------------------------------------------------------------------------------------------------
 
@@ -173,6 +175,19 @@ first-stands j rest = record {
   };
   fits = tt;
 }
+
+-- main's plain instructions are steps from it
+module _ (j : Job) (rest firsts : List ℕ) (g : Given j rest firsts) where
+  pub there : 0 < bodies (j .table)
+  unfolding bodies
+  there = omega arith
+
+  first-place : _≡_ {A = ℕ} (getD (replicate (bodies (j .table)) 0) 0 0) 0
+  first-place = getD-replicate {A = ℕ} (bodies (j .table)) 0 0 0 there
+
+  pub first-ran : PlainRan j rest (g .good) 0 there (init j) (firstNow (j .budget)) (firstLists (threads (j .table)) (events (j .table)) (updates (j .table))) (replicate (bodies (j .table)) 0) (firstRan (j .table) firsts (j .budget) (replicate (cells (j .table)) 0 ++ rest))
+  first-ran =
+      rw first-place at (plain-turn j rest firsts g 0 there (init j) (firstNow (j .budget)) (firstLists (threads (j .table)) (events (j .table)) (updates (j .table))) (replicate (bodies (j .table)) 0) (replicate (cells (j .table)) 0 ++ rest) (first-stands j rest))
 
 -- The cells at first -----------------------------------------------------------------------------------------------
 
@@ -258,10 +273,10 @@ module _ (budget : ℕ) (n : Now) (ms : List ℕ) (a : Told) where
           absurd (omega arith)
 
 -- the answer of the turns, with the cells
-pub run-told : (t ch ins fs : List ℕ) (budget k : ℕ) (start n : Now) (pe wa mo re ps cs pe′ wa′ mo′ re′ ps′ cs′ : List ℕ) (a : Told) → start ≡ firstNow budget → k ≡ 8 * (budget + length ch) + 1 → code n (lists pe′ wa′ mo′ re′) ps′ cs′ ≡ turns t ch ins fs k (code start (lists pe wa mo re) ps cs) → a ≡ answered budget n mo′
-    → record { answer = a; cells = cs′ } ≡ told budget (turns t ch ins fs (8 * (budget + length ch) + 1) (code (firstNow budget) (lists pe wa mo re) ps cs))
+pub run-told : (t ch ins fs : List ℕ) (budget k : ℕ) (start n : Now) (pe wa mo re ps qs cs ds pe′ wa′ mo′ re′ ps′ cs′ : List ℕ) (a : Told) → (start ≡ firstNow (firstRan t fs budget cs .ran .left)) × (qs ≡ set ps 0 (firstRan t fs budget cs .ran .place)) × (ds ≡ firstRan t fs budget cs .cells) → k ≡ 8 * (budget + length ch) + 1 → code n (lists pe′ wa′ mo′ re′) ps′ cs′ ≡ turns t ch ins fs k (code start (lists pe wa mo re) qs ds) → a ≡ answered budget n mo′
+    → record { answer = a; cells = cs′ } ≡ told budget (turns t ch ins fs (8 * (budget + length ch) + 1) (started t fs budget (lists pe wa mo re) ps cs))
 unfolding told
-run-told t ch ins fs budget k start n pe wa mo re ps cs pe′ wa′ mo′ re′ ps′ cs′ a e q m h = rw (← e, ← q, ← m, h)
+run-told t ch ins fs budget k start n pe wa mo re ps qs cs ds pe′ wa′ mo′ re′ ps′ cs′ a e q m h = rw (← e .0, ← e .1, ← e .2, ← q, ← m, h)
 
 -- The lists at first, cut from longer ones -------------------------------------------------------------------------
 
@@ -277,8 +292,8 @@ cut-same zero (suc e) x h = absurd (omega arith)
 cut-same (suc m) (suc e) x h = ap (λ (l : List ℕ). x ∷ l) (cut-same m e x (omega arith))
 
 pub laid : (t ch ins fs : List ℕ) (budget th ev up : ℕ) (cs : List ℕ) (o : Outcome) → th ≤ 16 → ev ≤ 32 → up ≤ 16
-    → o ≡ told budget (turns t ch ins fs (8 * (budget + length ch) + 1) (code (firstNow budget) (lists (take ev (replicate 32 forNothing)) (take th (replicate 16 forNothing)) (take th (replicate 16 0)) (take up (replicate 16 0))) (take (1 + th + up) (replicate 33 0)) cs))
-    → o ≡ told budget (turns t ch ins fs (8 * (budget + length ch) + 1) (code (firstNow budget) (firstLists th ev up) (replicate (1 + th + up) 0) cs))
+    → o ≡ told budget (turns t ch ins fs (8 * (budget + length ch) + 1) (started t fs budget (lists (take ev (replicate 32 forNothing)) (take th (replicate 16 forNothing)) (take th (replicate 16 0)) (take up (replicate 16 0))) (take (1 + th + up) (replicate 33 0)) cs))
+    → o ≡ told budget (turns t ch ins fs (8 * (budget + length ch) + 1) (started t fs budget (firstLists th ev up) (replicate (1 + th + up) 0) cs))
 laid t ch ins fs budget th ev up cs o h g f e =
     rw (← cut-same 32 ev forNothing g, ← cut-same 16 th forNothing h, ← cut-same 16 th 0 h, ← cut-same 16 up 0 f, ← cut-same 33 (1 + th + up) 0 (omega arith)) e
 
@@ -299,7 +314,7 @@ module _ (t : List ℕ) (good : judged t .number ≡ 0) (f : Frame) (e : f ≡ f
   all-bodies = rw e
 
   pub accepted-run : (ch ins lent fs cs : List ℕ) (budget : ℕ) (o : Outcome) → length ch ≤ 4096 → 256 ≤ length lent → budget < 4294967296 → Firsts t (1 + f .d + f .b + 1) fs → cs ≡ zeroed (f .imm) lent
-      → o ≡ told budget (turns t ch ins fs (8 * (budget + length ch) + 1) (code (firstNow budget) (firstLists (f .d) (f .a) (f .b)) (replicate (1 + f .d + f .b) 0) cs))
+      → o ≡ told budget (turns t ch ins fs (8 * (budget + length ch) + 1) (started t fs budget (firstLists (f .d) (f .a) (f .b)) (replicate (1 + f .d + f .b) 0) cs))
       → o ≡ runs (jobOf t ch ins budget) lent
   unfolding bodies counts
   accepted-run ch ins lent fs cs budget o short room small lines z q =
@@ -308,7 +323,8 @@ module _ (t : List ℕ) (good : judged t .number ≡ 0) (f : Frame) (e : f ≡ f
       let l = length-drop (cells t) lent in
       let g : Given j (drop (cells t) lent) fs = record { good = good; lines = λ k h. rw e at (lines .lines) k (omega arith); room = omega arith } in
       let zs : cs ≡ replicate (cells t) 0 ++ drop (cells t) lent = z ∙ rw e (zeroed-is (cells t) lent (omega arith)) in
-      rw (zs, e) at q ∙ told-is j lent fs g (firstCode j (drop (cells t) lent)) (first-stands j (drop (cells t) lent)) (8 * (budget + length ch) + 1) (omega arith) small short
+      let r = first-ran j (drop (cells t) lent) fs g in
+      rw (zs, e) at q ∙ told-is j lent fs g (r .more) _ (r .stands) (8 * (budget + length ch) + 1) (omega arith) small short
 
 -- What is asked, as the code's tests have it -----------------------------------------------------------------------
 

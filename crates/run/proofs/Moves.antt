@@ -28,7 +28,7 @@ use Rattle.run.specs.declared.Control.{Control}
 use Rattle.run.specs.declared.Control.the-variants.{Runs, UpdatePhase, DeltaPhase, Turn, Evaluation, TimePhase, Over}
 use Rattle.run.specs.declared.Now.{Now}
 use Rattle.run.specs.Stands.{Lists, lists, bodyOf, placeOf, limitOf, stageOf, Shows, Counts, Stands}
-use Rattle.run.specs.Code.{goesTo, dispatch, chosenBy, evaluated, asked, entersTo, entersAt, servedTo, turned, leastOf, closed, movedTo, timedBy, servedBy}
+use Rattle.run.specs.Code.{goesTo, dispatch, chosenBy, evaluated, asked, entersTo, entersAt, servedTo, leastOf, closed, movedTo, timedBy, servedBy}
 use Rattle.run.proofs.Shows.{edited, shows-again, shows-served}
 
 -- searches over tests that agree
@@ -150,7 +150,7 @@ module _ (j : Job) (rest : List ℕ) (s : State) (n : Now) (l : Lists) (ps cs : 
       })
 
   -- Evaluation
-  pub evaluates : placeOf (threads t) (n .control) ≡ evaluation → Stands j rest (step j s) (evaluated (j .choices) n (l .waits) (l .modes)) l ps cs
+  pub evaluates : placeOf (threads t) (n .control) ≡ evaluation → Stands j rest (step j s) (evaluated (j .choices) UpdatePhase n (l .waits) (l .modes)) l ps cs
   unfolding evaluated kernel after bodyOf
   evaluates here = some (any (runnable t k) (threads t)) refl
     where
@@ -186,16 +186,15 @@ module _ (j : Job) (rest : List ℕ) (s : State) (n : Now) (l : Lists) (ps cs : 
       some false a = rw (any-run t k l (st .shows), a) (goes-to UpdatePhase updatePhase refl (step-idles j s stood a))
 
   -- The turn to evaluation or time
-  pub turns : placeOf (threads t) (n .control) ≡ turn → Stands j rest (step j s) (turned n (l .waits) (l .modes)) l ps cs
-  unfolding turned
-  turns here = rw (any-run t k l (st .shows)) (some (any (runnable t k) (threads t)) refl)
+  pub turns : placeOf (threads t) (n .control) ≡ turn → (b : Bool) → any (mayRun (l .waits) (l .modes)) (length (l .waits)) ≡ b → Stands j rest (step j s) (if b then goesTo Evaluation n else goesTo TimePhase n) l ps cs
+  turns here b a = by b (sym (any-run t k l (st .shows)) ∙ a)
     where
       stood : m .control ≡ turn
       stood = sym (st .counts .control) ∙ here
 
-      some : (b : Bool) → any (runnable t k) (threads t) ≡ b → Stands j rest (step j s) (if b then goesTo Evaluation n else goesTo TimePhase n) l ps cs
-      some true a = goes-to Evaluation evaluation refl (step-turns j s stood a)
-      some false a = goes-to TimePhase timePhase refl (step-waits j s stood a)
+      by : (b : Bool) → any (runnable t k) (threads t) ≡ b → Stands j rest (step j s) (if b then goesTo Evaluation n else goesTo TimePhase n) l ps cs
+      by true a = goes-to Evaluation evaluation refl (step-turns j s stood a)
+      by false a = goes-to TimePhase timePhase refl (step-waits j s stood a)
 
   -- The delta phase
   pub serves-delta : placeOf (threads t) (n .control) ≡ deltaPhase → Stands j rest (step j s) (goesTo Turn n) (servedTo 0 (map resumedCode (l .modes)) l) ps cs

@@ -16,6 +16,7 @@ use Rattle.image.specs.Layout.{frame, counts, bodies, len, lengths, first, due 
 use Rattle.image.specs.Judge.{fault, judged}
 use Rattle.image.proofs.Walk.{lengths-grow, first-next, first-grows, due-above}
 use Rattle.image.proofs.Accepted.{accepted-has, few-instructions}
+use Rattle.kernel.specs.Search.{Found, none, found, nth, any}
 use Rattle.kernel.specs.Design.{Table, Body, main, thread, update, threads, updates, number, cells}
 use Rattle.kernel.specs.Kernel.{Kernel, Stage, ending, ended, finished, after, kernel}
 use Rattle.kernel.specs.Pending.{runnable, isRequested}
@@ -28,7 +29,7 @@ use Rattle.kernel.specs.Enough.{Over as IsOver}
 use Rattle.kernel.proofs.Enough.{stays}
 use Rattle.kernel.proofs.Laws.{steps-one, steps-last, step-main-ends, step-thread-ends, step-update-ends}
 use Rattle.phases.specs.Codes.{requestedOf}
-use Rattle.phases.specs.Phases.{changed, endCode, resumedCode}
+use Rattle.phases.specs.Phases.{mayRun, changed, endCode, resumedCode}
 use Rattle.phases.specs.Laws.{ends-for-good}
 use Rattle.plain.specs.declared.End.{End}
 use Rattle.plain.specs.declared.End.the-variants.{Ended, Left, Stopped}
@@ -37,7 +38,7 @@ use Rattle.run.specs.declared.Control.{Control}
 use Rattle.run.specs.declared.Control.the-variants.{Runs, UpdatePhase, DeltaPhase, Turn, Evaluation, TimePhase, Over}
 use Rattle.run.specs.declared.Now.{Now}
 use Rattle.run.specs.Stands.{Lists, lists, bodyOf, placeOf, stageOf, Shows, Stands}
-use Rattle.run.specs.Code.{Code, code, goesTo, withLeft, phaseNumber, endsTo, endsIn, obeyed, completed, ranTo, afterPlain, bodyRun, turnFrom, turn}
+use Rattle.run.specs.Code.{Code, code, goesTo, withLeft, chosenBy, evaluated, phaseNumber, endsTo, endsIn, obeyed, completed, ranTo, afterPlain, bodyRun, turnFrom, turn}
 use Rattle.run.proofs.Shows.{shows-mode, shows-requests}
 use Rattle.run.proofs.Moves.{goes-to, evaluates, turns, serves-delta, enters-update, times}
 use Rattle.run.proofs.Bodies.{number-of, place-is, paid-is, Ending, PlainRan, ran-plain}
@@ -53,6 +54,10 @@ pub record Reaches (j : Job) (rest : List ℕ) (s : State) (c : Code) : Type 0 w
 
 reaches-one : (j : Job) (rest : List ℕ) (s : State) (c : Code) → StandsAt j rest (step j s) c → Reaches j rest s c
 reaches-one j rest s c h = record { more = 0; stands = subst (λ (x : State). StandsAt j rest x c) (sym (steps-one j s)) h }
+
+reaches-two : (j : Job) (rest : List ℕ) (s : State) (c : Code) → StandsAt j rest (step j (step j s)) c → Reaches j rest s c
+unfolding steps
+reaches-two j rest s c h = record { more = 1; stands = subst (λ (x : State). StandsAt j rest x c) (sym (steps-one j (step j s))) h }
 
 -- A body's end ----------------------------------------------------------------------------------------------------
 
@@ -202,17 +207,45 @@ module _ (j : Job) (rest firsts : List ℕ) (g : Given j rest firsts) where
       after-plain s′ Left p x ds sp f =
           obeyed-there s′ p x ds sp (sym (paid-is j rest (g .good) b there s′ n l ps ds x p sp) ∙ f .1) (f .0) (f .2)
 
+      enough-cells : mostCells ≤ length cs
+      enough-cells = rw (st .counts .cells) (rw (length-append (s .machine .cells) rest, st .counts .all-cells) (g .room))
+
+      plain-runs : PlainRan j rest (g .good) b there s n l ps (plain (n .left) tb (first tb b) (len tb b) (getD ps b 0) cs)
+      plain-runs = ran-plain j rest (g .good) b there n l ps (n .left) (getD ps b 0) cs s (rw (set-getD ps b 0) st)
+
+      -- the plain instructions alone
+      pub plain-turn : PlainRan j rest (g .good) b there s n l ps (runPlain (n .left) tb (getD firsts b 0) (getD firsts (b + 1) 0 - getD firsts b 0) (getD ps b 0) cs)
+      unfolding runPlain
+      plain-turn = rw (len-is, g .lines b (omega arith), able-is cs enough-cells) plain-runs
+
       pub body-turn : Reaches j rest s (bodyRun tb (j .inputs) firsts b (code (goesTo (Runs b) n) l ps cs))
       unfolding bodyRun runPlain
       body-turn =
           let o : Out = plain (n .left) tb (first tb b) (len tb b) (getD ps b 0) cs in
-          let start : Stands j rest s (withLeft (n .left) (goesTo (Runs b) n)) l (set ps b (getD ps b 0)) cs = rw (set-getD ps b 0) st in
-          let r : PlainRan j rest (g .good) b there s n l ps o = ran-plain j rest (g .good) b there n l ps (n .left) (getD ps b 0) cs s start in
-          let a : mostCells ≤ length cs = rw (st .counts .cells) (rw (length-append (s .machine .cells) rest, st .counts .all-cells) (g .room)) in
-          rw (len-is, g .lines b (omega arith), able-is cs a)
+          let r : PlainRan j rest (g .good) b there s n l ps o = plain-runs in
+          rw (len-is, g .lines b (omega arith), able-is cs enough-cells)
           (record { more = r .more; stands = subst (λ (x : State). StandsAt j rest x (afterPlain tb (j .inputs) (first tb b) b o (goesTo (Runs b) n) l ps)) (sym (steps-last j (r .more) s)) (after-plain (steps j (r .more) s) (o .ran .end) (o .ran .place) (o .ran .left) (o .cells) (r .stands) (r .ending)) })
 
   -- One turn ------------------------------------------------------------------------------------------------------
+
+  -- after the delta phase: evaluation and its first choice, or time
+  turn-taken : (s : State) (c : Code) → StandsAt j rest s c → placeOf (threads (j .table)) (c .now .control) ≡ turnPlace → Reaches j rest s (code (evaluated (j .choices) TimePhase (c .now) (c .lists .waits) (c .lists .modes)) (c .lists) (c .places) (c .cells))
+  unfolding evaluated
+  turn-taken s c st here = on (any (mayRun (l .waits) (l .modes)) (length (l .waits))) refl
+    where
+      l : Lists
+      l = c .lists
+
+      -- a choice counts the same, wherever the machine stands
+      same-choice : (f : Found) → chosenBy f (goesTo Evaluation (c .now)) (l .waits) (l .modes) ≡ chosenBy f (c .now) (l .waits) (l .modes)
+      same-choice none = refl
+      same-choice (found i) = refl
+
+      on : (z : Bool) → any (mayRun (l .waits) (l .modes)) (length (l .waits)) ≡ z → Reaches j rest s (code (if z then chosenBy (nth (j .choices) (c .now .chosen)) (c .now) (l .waits) (l .modes) else goesTo TimePhase (c .now)) l (c .places) (c .cells))
+      on true a =
+          let st′ : Stands j rest (step j s) (goesTo Evaluation (c .now)) l (c .places) (c .cells) = turns j rest s (c .now) l (c .places) (c .cells) st here true a in
+          reaches-two j rest s _ (rw (a, same-choice (nth (j .choices) (c .now .chosen))) at (evaluates j rest (step j s) (goesTo Evaluation (c .now)) l (c .places) (c .cells) st′ refl))
+      on false a = reaches-one j rest s _ (turns j rest s (c .now) l (c .places) (c .cells) st here false a)
 
   pub turn-follows : (s : State) (c : Code) → StandsAt j rest s c → Reaches j rest s (turn (j .table) (j .choices) (j .inputs) firsts c)
   unfolding turn
@@ -235,7 +268,7 @@ module _ (j : Job) (rest firsts : List ℕ) (g : Given j rest firsts) where
       by UpdatePhase e =
           rw (st .shows .all-waits) (reaches-one j rest s _ (enters-update j rest s (c .now) (c .lists) (c .places) (c .cells) st (stood UpdatePhase e)))
       by DeltaPhase e = reaches-one j rest s _ (serves-delta j rest s (c .now) (c .lists) (c .places) (c .cells) st (stood DeltaPhase e))
-      by Turn e = reaches-one j rest s _ (turns j rest s (c .now) (c .lists) (c .places) (c .cells) st (stood Turn e))
+      by Turn e = turn-taken s c st (stood Turn e)
       by Evaluation e = reaches-one j rest s _ (evaluates j rest s (c .now) (c .lists) (c .places) (c .cells) st (stood Evaluation e))
       by TimePhase e = reaches-one j rest s _ (times j rest s (c .now) (c .lists) (c .places) (c .cells) st (stood TimePhase e))
       by (Over k b p) e =

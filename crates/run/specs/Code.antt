@@ -52,17 +52,18 @@ abbrev pub chosenBy : Found → Now → (ws ms : List ℕ) → Now
 chosenBy none n ws ms = goesTo (Over 20 0xff 0) n
 chosenBy (found c) n ws ms = if mayRun ws ms c then dispatch c n else goesTo (Over 21 0xff 0) n
 
-unfoldable pub evaluated : (choices : List ℕ) → Now → (ws ms : List ℕ) → Now
-evaluated choices n ws ms =
-    if any (mayRun ws ms) (length ws) then chosenBy (nth choices (n .chosen)) n ws ms else goesTo UpdatePhase n
+-- and where no thread is runnable the machine goes to `idle`
+unfoldable pub evaluated : (choices : List ℕ) → (idle : Control) → Now → (ws ms : List ℕ) → Now
+evaluated choices idle n ws ms =
+    if any (mayRun ws ms) (length ws) then chosenBy (nth choices (n .chosen)) n ws ms else goesTo idle n
 
 -- what the next choice comes to while a thread is runnable; and what follows where it stops the run with k
 abbrev pub choiceBy : Found → (ws ms : List ℕ) → Choice
 choiceBy none ws ms = Refused 20
 choiceBy (found c) ws ms = if mayRun ws ms c then Thread c else Refused 21
 
-abbrev pub idleOr : (k : ℕ) → Now → (ws ms : List ℕ) → Now
-idleOr k n ws ms = if any (mayRun ws ms) (length ws) then goesTo (Over k 0xff 0) n else goesTo UpdatePhase n
+abbrev pub idleOr : (k : ℕ) → (idle : Control) → Now → (ws ms : List ℕ) → Now
+idleOr k idle n ws ms = if any (mayRun ws ms) (length ws) then goesTo (Over k 0xff 0) n else goesTo idle n
 
 -- The update phase; t is the number of threads ----------------------------------------------------------------
 
@@ -81,9 +82,6 @@ entersAt t (found u) ps = set ps (t + 1 + u) 0
 
 abbrev pub servedTo : ℕ → List ℕ → Lists → Lists
 servedTo q ms l = lists (servedPends q (l .pends)) (servedWaits q (l .pends) (l .waits)) ms (l .requests)
-
-unfoldable pub turned : Now → (ws ms : List ℕ) → Now
-turned n ws ms = if any (mayRun ws ms) (length ws) then goesTo Evaluation n else goesTo TimePhase n
 
 -- Time --------------------------------------------------------------------------------------------------------
 
@@ -262,8 +260,8 @@ module _ (table choices inputs firsts : List ℕ) (c : Code) where
   turnFrom UpdatePhase =
       code (entersTo (length (l .waits)) (asked (l .requests)) n) l (entersAt (length (l .waits)) (asked (l .requests)) (c .places)) (c .cells)
   turnFrom DeltaPhase = code (goesTo Turn n) (servedTo 0 (map resumedCode (l .modes)) l) (c .places) (c .cells)
-  turnFrom Turn = code (turned n (l .waits) (l .modes)) l (c .places) (c .cells)
-  turnFrom Evaluation = code (evaluated choices n (l .waits) (l .modes)) l (c .places) (c .cells)
+  turnFrom Turn = code (evaluated choices TimePhase n (l .waits) (l .modes)) l (c .places) (c .cells)
+  turnFrom Evaluation = code (evaluated choices UpdatePhase n (l .waits) (l .modes)) l (c .places) (c .cells)
   turnFrom TimePhase = code (timedBy (leastOf (l .pends) (l .waits)) n) (servedBy (leastOf (l .pends) (l .waits)) n l) (c .places) (c .cells)
   turnFrom (Over k b p) = c
 
@@ -293,6 +291,16 @@ firstNow budget = record { control = Runs 0; time = 0; limit = 4294967296; stage
 -- no event pends, no thread waits or is suspended, no update is requested
 abbrev pub firstLists : (threads events updates : ℕ) → Lists
 firstLists t e u = lists (replicate e forNothing) (replicate t forNothing) (replicate t 0) (replicate u 0)
+
+-- main's first plain instructions, and the state after them
+abbrev pub firstRan : (table firsts : List ℕ) → (budget : ℕ) → List ℕ → Out
+firstRan table firsts budget cs =
+    runPlain budget table (getD firsts 0 0) (getD firsts 1 0 - getD firsts 0 0) 0 cs
+
+abbrev pub started : (table firsts : List ℕ) → (budget : ℕ) → Lists → (ps cs : List ℕ) → Code
+started table firsts budget l ps cs =
+    let o : Out = firstRan table firsts budget cs in
+    code (firstNow (o .ran .left)) l (set ps 0 (o .ran .place)) (o .cells)
 
 -- the first n hold 0
 unfoldable pub zeroed : ℕ → List ℕ → List ℕ

@@ -19,7 +19,7 @@ ghost use Rattle.phases.specs.Phases.{changed, earlierCode, freedCode, resumedC
 ghost use Rattle.plain.specs.Plain.{runPlain};
 ghost use Rattle.plain.specs.Laws.{Inside};
 ghost use Rattle.run.specs.Stands.{lists, Firsts};
-ghost use Rattle.run.specs.Code.{Code, code, goesTo, choiceBy, idleOr, evaluated, asked, entersTo, entersAt, servedTo, turned, leastOf, closed, movedTo, timedBy, servedBy, phaseNumber, isThread, endsTo, endsIn, did, isPast, waitsIn, full, dueBy, tookBy, inTime, startsBy, obeyed, staysAt, nextInput, withLeft, completedTo, completedAt, completed, ranTo, afterPlain, bodyRun, turn, isOver, turns, firstNow, firstLists, zeroed, jobOf, said, refusedAt, answerAs, answered, told};
+ghost use Rattle.run.specs.Code.{Code, code, goesTo, choiceBy, idleOr, evaluated, asked, entersTo, entersAt, servedTo, leastOf, closed, movedTo, timedBy, servedBy, phaseNumber, isThread, endsTo, endsIn, did, isPast, waitsIn, full, dueBy, tookBy, inTime, startsBy, obeyed, staysAt, nextInput, withLeft, completedTo, completedAt, completed, ranTo, afterPlain, bodyRun, turn, isOver, turns, firstNow, firstRan, started, firstLists, zeroed, jobOf, said, refusedAt, answerAs, answered, told};
 ghost use Rattle.image.specs.Layout.{bodies as bodiesOf};
 ghost use Rattle.image.specs.Judge.{judged};
 ghost use Rattle.kernel.specs.Run.{runs, asked as askedFor};
@@ -96,19 +96,20 @@ fn next_choice(choices: &[u8], at: usize, waits: &[u64], modes: &[u8]) -> Choice
     Choice::Refused(21)
 }
 
-// The update phase where no thread is runnable, else the run is over with k.
-fn idle_or(n: Now, k: u8, waits: &[u64], modes: &[u8]) -> Now
-    ensures { λ r. ⌜ r ≡ idleOr k n (now (waits .entry)) (now (modes .entry)) ⌝ }
+// Where no thread is runnable the machine goes to `idle`, else the run is over with k.
+fn idle_or(n: Now, k: u8, idle: Control, waits: &[u64], modes: &[u8]) -> Now
+    ensures { λ r. ⌜ r ≡ idleOr k idle n (now (waits .entry)) (now (modes .entry)) ⌝ }
 {
     if phases::any_runnable(waits, modes) {
         return to(n, Control::Over(k, 0xff, 0));
     }
-    to(n, Control::UpdatePhase)
+    to(n, idle)
 }
 
-// Evaluation: the next choice names the thread that is dispatched. Where it names a runnable one, no other need be looked at.
-fn evaluate(choices: &[u8], n: Now, waits: &[u64], modes: &[u8]) -> Now
-    ensures { λ r. ⌜ r ≡ evaluated (now (choices .entry)) n (now (waits .entry)) (now (modes .entry)) ⌝ }
+// Evaluation: the next choice names the thread that is dispatched. Where it names a runnable one, no other need be looked at. Where
+// none is runnable the update phase follows, or time where that was asked after the delta phase.
+fn evaluate(choices: &[u8], n: Now, idle: Control, waits: &[u64], modes: &[u8]) -> Now
+    ensures { λ r. ⌜ r ≡ evaluated (now (choices .entry)) idle n (now (waits .entry)) (now (modes .entry)) ⌝ }
 {
     let at = n.chosen;
     let choice = next_choice(choices, at, waits, modes);
@@ -122,7 +123,7 @@ fn evaluate(choices: &[u8], n: Now, waits: &[u64], modes: &[u8]) -> Now
             chosen: at + 1,
             taken: n.taken,
         },
-        Choice::Refused(k) => idle_or(n, k, waits, modes),
+        Choice::Refused(k) => idle_or(n, k, idle, waits, modes),
     }
 }
 
@@ -145,16 +146,6 @@ fn update_phase(n: Now, threads: usize, requests: &[u8], places: &mut [usize]) -
     let b = threads + 1 + u;
     put_place(places, b, 0);
     to(n, Control::Runs(b))
-}
-
-// The turn to evaluation or time.
-fn take_turn(n: Now, waits: &[u64], modes: &[u8]) -> Now
-    ensures { λ r. ⌜ r ≡ turned n (now (waits .entry)) (now (modes .entry)) ⌝ }
-{
-    if phases::any_runnable(waits, modes) {
-        return to(n, Control::Evaluation);
-    }
-    to(n, Control::TimePhase)
 }
 
 // The delta phase: all delta work is done together.
@@ -777,8 +768,8 @@ fn turn_once(
         ),
         Control::UpdatePhase => update_phase(n, waits.len(), requests, places),
         Control::DeltaPhase => delta_phase(n, pends, waits, modes),
-        Control::Turn => take_turn(n, waits, modes),
-        Control::Evaluation => evaluate(choices, n, waits, modes),
+        Control::Turn => evaluate(choices, n, Control::TimePhase, waits, modes),
+        Control::Evaluation => evaluate(choices, n, Control::UpdatePhase, waits, modes),
         Control::TimePhase => time_phase(n, pends, waits),
         Control::Over(_, _, _) => n,
     }
@@ -930,6 +921,24 @@ fn bound_of(budget: u32, choices: usize) -> u64
     8 * (budget as u64 + choices as u64) + 1
 }
 
+// The first state, after main's plain instructions up to the first other one. They would run in the first turn as well; but where
+// the loop over plain instructions has one caller, the compiler copies it there, among so much else that it runs out of registers.
+fn start(
+    table: &[u64],
+    firsts: &[usize],
+    budget: u32,
+    places: &mut [usize],
+    cells: &mut [u32],
+) -> Now
+    ensures { λ r. ⌜ (r ≡ firstNow (firstRan (now (table .entry)) (now (firsts .entry)) budget (now (cells .entry)) .ran .left)) × (now (places .exit) ≡ set (now (places .entry)) 0 (firstRan (now (table .entry)) (now (firsts .entry)) budget (now (cells .entry)) .ran .place)) × (now (cells .exit) ≡ firstRan (now (table .entry)) (now (firsts .entry)) budget (now (cells .entry)) .cells) ⌝ }
+{
+    let base = first_at(firsts, 0);
+    let len = distance(base, first_after(firsts, 0));
+    let ran = plain::run_plain(table, base, len, 0, budget, cells);
+    put_place(places, 0, ran.place);
+    first_now(ran.left)
+}
+
 // The run from its first state on.
 fn run_from(
     table: &[u64],
@@ -945,16 +954,16 @@ fn run_from(
     cells: &mut [u32],
 ) -> Answer
     requires { ⌜ (length (now choices) ≤ 4096) × (length (now waits) ≤ 16) × (length (now requests) ≤ 16) ⌝ }
-    ensures { λ r. ⌜ record { answer = said r; cells = now (cells .exit) } ≡ told budget (turns (now (table .entry)) (now (choices .entry)) (now (inputs .entry)) (now (firsts .entry)) (8 * (budget + length (now (choices .entry))) + 1) (code (firstNow budget) (lists (now (pends .entry)) (now (waits .entry)) (now (modes .entry)) (now (requests .entry))) (now (places .entry)) (now (cells .entry)))) ⌝ }
+    ensures { λ r. ⌜ record { answer = said r; cells = now (cells .exit) } ≡ told budget (turns (now (table .entry)) (now (choices .entry)) (now (inputs .entry)) (now (firsts .entry)) (8 * (budget + length (now (choices .entry))) + 1) (started (now (table .entry)) (now (firsts .entry)) budget (lists (now (pends .entry)) (now (waits .entry)) (now (modes .entry)) (now (requests .entry))) (now (places .entry)) (now (cells .entry)))) ⌝ }
 {
     let bound = bound_of(budget, choices.len());
-    let start = first_now(budget);
+    let begun = start(table, firsts, budget, places, cells);
     let n = machine(
         table,
         choices,
         inputs,
         firsts,
-        start,
+        begun,
         bound,
         pends,
         waits,
@@ -979,7 +988,7 @@ fn run_laid(
     cells: &mut [u32],
 ) -> Answer
     requires { ⌜ (length (now choices) ≤ 4096) × (threads ≤ 16) × (events ≤ 32) × (updates ≤ 16) ⌝ }
-    ensures { λ r. ⌜ record { answer = said r; cells = now (cells .exit) } ≡ told budget (turns (now (table .entry)) (now (choices .entry)) (now (inputs .entry)) (now (firsts .entry)) (8 * (budget + length (now (choices .entry))) + 1) (code (firstNow budget) (firstLists threads events updates) (replicate (1 + threads + updates) 0) (now (cells .entry)))) ⌝ }
+    ensures { λ r. ⌜ record { answer = said r; cells = now (cells .exit) } ≡ told budget (turns (now (table .entry)) (now (choices .entry)) (now (inputs .entry)) (now (firsts .entry)) (8 * (budget + length (now (choices .entry))) + 1) (started (now (table .entry)) (now (firsts .entry)) budget (firstLists threads events updates) (replicate (1 + threads + updates) 0) (now (cells .entry)))) ⌝ }
 {
     let bodies = 1 + threads + updates;
     let mut pends = [0x1_0000_0001u64; Image::EVENTS as usize];

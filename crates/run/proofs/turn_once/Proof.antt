@@ -24,14 +24,14 @@ delta-phase-requires c κs = search needs
 enum-told-3 : tie.Need-enum-told-3
 enum-told-3 c = search needs
 
-take-turn-requires : tie.Need-take-turn-requires
-take-turn-requires c κs = search needs
+evaluate-requires : tie.Need-evaluate-requires
+evaluate-requires c κs = search needs
 
 enum-told-4 : tie.Need-enum-told-4
 enum-told-4 c = search needs
 
-evaluate-requires : tie.Need-evaluate-requires
-evaluate-requires c κs = search needs
+evaluate-requires-2 : tie.Need-evaluate-requires-2
+evaluate-requires-2 c κs = search needs
 
 enum-told-5 : tie.Need-enum-told-5
 enum-told-5 c = search needs
@@ -125,9 +125,9 @@ turn-once-spec =
     enum-told-2
     delta-phase-requires
     enum-told-3
-    take-turn-requires
-    enum-told-4
     evaluate-requires
+    enum-told-4
+    evaluate-requires-2
     enum-told-5
     time-phase-requires
     enum-told-6
