@@ -25,6 +25,10 @@ impl Image {
     pub const INSTRUCTIONS: usize = 1024;
 
     pub const LINES: usize = 1058;
+
+    pub const CHOICES: usize = 4096;
+
+    pub const INPUTS: usize = 1024;
 }
 
 // What the judge, the reader and the writer answer, with the line of the first fault or the count that was done.
