@@ -7,7 +7,7 @@ use native.Mathlib.Omega.{arith}
 use borrow.Author.Tests.{lt-ltb, le-ltb, eq-eqb, ne-eqb}
 use borrow.Rule.Slice.PartAt.{part-to-end}
 use lib.Dec.{eqb, ltb}
-use lib.ListN.{length, getD, take, drop, replicate}
+use lib.ListN.{length, getD, take, drop, replicate, length-append}
 use lib.Seq.{take-at, length-take-le}
 use Rattle.laws.specs.Choice.{if_then_else_}
 use Rattle.laws.specs.Lists.{over}
@@ -160,3 +160,19 @@ unfolding answered
 room job out w h e = rw (le-ltb (length out) mostPrinted h) e
 
 pub ruleset room-laws = (no-room, room)
+
+-- the bytes written stand in the buffer
+module _ (job out l : List ℕ) (n : ℕ) where
+  by-room : (b : Bool) → wrote n l ≡ (if b then wrote 0 out else put (printed job) out) → n ≤ length l
+  by-room true e = omega (arith, ap (λ (w : Written). w .count) e)
+  by-room false e =
+      omega (arith, ap (λ (w : Written). w .count) e, ap (λ (w : Written). length (w .bytes)) e, length-append (printed job) (drop (length (printed job)) out))
+
+  pub count-within : wrote n l ≡ answered job out → n ≤ length l
+  unfolding answered
+  count-within e = by-room (ltb (length out) mostPrinted) e
+
+  pub count-counted : wrote n l ≡ answered job out → n ≡ length (take n l)
+  count-counted e = sym (length-take-le n l (count-within e))
+
+pub ruleset count-laws = (count-within, count-counted)

@@ -2,3 +2,4 @@ pub mod JobLines
 pub mod Printing
 pub mod Whole
 pub mod Steps
+pub mod Example

@@ -21,7 +21,14 @@ const ANSWER_LINE: usize = 44;
 
 const CELL_LINE: usize = 9;
 
-pub const LONGEST: usize = ANSWER_LINE + CELL_LINE * Image::CELLS as usize;
+pub const LONGEST_ANSWER: usize = ANSWER_LINE + CELL_LINE * Image::CELLS as usize;
+
+// The bytes of the longest job, which are those of its three lines and of its image, and one more: what stands past them changes no answer.
+pub const LONGEST_JOB: usize = 9
+    + (2 * Image::CHOICES + 1)
+    + (8 * Image::INPUTS + 1)
+    + 17 * Image::LINES
+    + 1;
 
 // What a line of numbers holds: so many, or it is malformed.
 enum Listed {
@@ -287,7 +294,7 @@ fn print(job: &[u8], out: &mut [u8]) -> usize
 pub fn answer(job: &[u8], out: &mut [u8]) -> usize
     ensures { λ r. ⌜ wrote r (now (out .exit)) ≡ answered (now (job .entry)) (now (out .entry)) ⌝ }
 {
-    if out.len() < LONGEST {
+    if out.len() < LONGEST_ANSWER {
         return 0;
     }
     print(job, out)
