@@ -1,0 +1,5 @@
+pub mod Reading
+pub mod Puts
+pub mod Stages
+pub mod Unique
+pub mod Cap

@@ -1,0 +1,5 @@
+pub mod JobLines
+pub mod Printing
+pub mod Whole
+pub mod Steps
+pub mod Example

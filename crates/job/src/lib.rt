@@ -1,0 +1,301 @@
+// The program's work whole: from the bytes of a job to the bytes of its answer.
+use hex::Number;
+use image::Image;
+use run::Answer;
+ghost use mathlib.Core.Path.{_≡_};
+ghost use Prim.Native.Nat.{_+_, _*_, _≤_};
+ghost use lib.ListN.{length};
+ghost use lib.Seq.{sets};
+ghost use Rattle.laws.specs.Choice.{between};
+ghost use Rattle.image.specs.Limits.{mostCells};
+ghost use Rattle.image.specs.Judge.{judged};
+ghost use Rattle.kernel.specs.Run.{mostChoices, mostInputs};
+ghost use Rattle.run.specs.Code.{said, jobOf, refusedAt};
+ghost use Rattle.job.specs.JobLines.{lineLength, budgetOf, numbersFrom, numbersOf};
+ghost use Rattle.job.specs.Printing.{field, stopFields, countFields, answerLine, cellLines, shown, refusal, mostPrinted};
+ghost use Rattle.job.specs.Whole.{fromTable, fromImage, fromInputs, fromChoices, printed, wrote, put, answered};
+ghost use Rattle.job.specs.Steps.{listed, countOf};
+
+// The bytes of the answer's line, of a cell's line, and of the longest answer.
+const ANSWER_LINE: usize = 44;
+
+const CELL_LINE: usize = 9;
+
+pub const LONGEST_ANSWER: usize = ANSWER_LINE + CELL_LINE * Image::CELLS as usize;
+
+// The bytes of the longest job, which are those of its three lines and of its image, and one more: what stands past them changes no answer.
+pub const LONGEST_JOB: usize = 9
+    + (2 * Image::CHOICES + 1)
+    + (8 * Image::INPUTS + 1)
+    + 17 * Image::LINES
+    + 1;
+
+// What a line of numbers holds: so many, or it is malformed.
+enum Listed {
+    Count(usize),
+    Broken,
+}
+
+// The bytes before the first 0a.
+fn line_length(text: &[u8]) -> usize
+    ensures { λ r. ⌜ r ≡ lineLength (now (text .entry)) ⌝ }
+{
+    let mut i: usize = 0;
+    while i < text.len() {
+        if text[i] == b'\n' {
+            return i;
+        }
+        i = i + 1;
+    }
+    i
+}
+
+// The budget on the first line, which is so long.
+fn budget_of(text: &[u8], line: usize) -> Number
+    requires { ⌜ line ≡ lineLength (now text) ⌝ }
+    ensures { λ r. ⌜ r ≡ budgetOf (now (text .entry)) ⌝ }
+{
+    if text.len() <= line {
+        return Number::Malformed;
+    }
+    if line != 8 {
+        return Number::Malformed;
+    }
+    hex::number_at(text, 0, 8)
+}
+
+// The first n numbers of two digits.
+fn list_choices(text: &[u8], n: usize, choices: &mut [u8]) -> Listed
+    requires { ⌜ (n ≤ mostChoices) × (mostChoices ≤ length (now choices)) ⌝ }
+    ensures { λ r. ⌜ (listed r (now (choices .exit)) ≡ numbersFrom (now (text .entry)) 2 0 n) × (countOf r ≤ n) ⌝ }
+{
+    let mut i: usize = 0;
+    while i < n {
+        let Number::Is(x) = hex::number_at(text, 2 * i, 2) else {
+            return Listed::Broken;
+        };
+        choices[i] = x as u8;
+        i = i + 1;
+    }
+    Listed::Count(i)
+}
+
+// The choices on the first line, which is so long.
+fn choices_of(text: &[u8], line: usize, choices: &mut [u8]) -> Listed
+    requires { ⌜ (line ≡ lineLength (now text)) × (mostChoices ≤ length (now choices)) ⌝ }
+    ensures { λ r. ⌜ (listed r (now (choices .exit)) ≡ numbersOf 2 mostChoices (now (text .entry))) × (countOf r ≤ mostChoices) ⌝ }
+{
+    if text.len() <= line {
+        return Listed::Broken;
+    }
+    if line % 2 != 0 {
+        return Listed::Broken;
+    }
+    if Image::CHOICES < line / 2 {
+        return Listed::Broken;
+    }
+    list_choices(text, line / 2, choices)
+}
+
+// The first n numbers of eight digits.
+fn list_inputs(text: &[u8], n: usize, inputs: &mut [u32]) -> Listed
+    requires { ⌜ (n ≤ mostInputs) × (mostInputs ≤ length (now inputs)) ⌝ }
+    ensures { λ r. ⌜ (listed r (now (inputs .exit)) ≡ numbersFrom (now (text .entry)) 8 0 n) × (countOf r ≤ n) ⌝ }
+{
+    let mut i: usize = 0;
+    while i < n {
+        let Number::Is(x) = hex::number_at(text, 8 * i, 8) else {
+            return Listed::Broken;
+        };
+        inputs[i] = x as u32;
+        i = i + 1;
+    }
+    Listed::Count(i)
+}
+
+// The inputs on the first line, which is so long.
+fn inputs_of(text: &[u8], line: usize, inputs: &mut [u32]) -> Listed
+    requires { ⌜ (line ≡ lineLength (now text)) × (mostInputs ≤ length (now inputs)) ⌝ }
+    ensures { λ r. ⌜ (listed r (now (inputs .exit)) ≡ numbersOf 8 mostInputs (now (text .entry))) × (countOf r ≤ mostInputs) ⌝ }
+{
+    if text.len() <= line {
+        return Listed::Broken;
+    }
+    if line % 8 != 0 {
+        return Listed::Broken;
+    }
+    if Image::INPUTS < line / 8 {
+        return Listed::Broken;
+    }
+    list_inputs(text, line / 8, inputs)
+}
+
+// Writes the n digits of x from byte at on, and the byte that follows them.
+fn put_field(x: u32, n: usize, end: u8, out: &mut [u8], at: usize)
+    requires { ⌜ at + n + 1 ≤ length (now out) ⌝ }
+    ensures { λ r. ⌜ now (out .exit) ≡ sets (now (out .entry)) at (field n x end) ⌝ }
+{
+    hex::write_at(x as u64, n, out, at);
+    out[at + n] = end;
+}
+
+// Writes where and when the run stopped.
+fn put_stop(a: Answer, out: &mut [u8])
+    requires { ⌜ 44 ≤ length (now out) ⌝ }
+    ensures { λ r. ⌜ now (out .exit) ≡ sets (now (out .entry)) 0 (stopFields (said a)) ⌝ }
+{
+    put_field(a.number, 2, b' ', out, 0);
+    put_field(a.body, 2, b' ', out, 3);
+    put_field(a.place, 4, b' ', out, 6);
+    put_field(a.time, 8, b' ', out, 11);
+}
+
+// Writes what the run took and left.
+fn put_counts(a: Answer, out: &mut [u8])
+    requires { ⌜ 44 ≤ length (now out) ⌝ }
+    ensures { λ r. ⌜ now (out .exit) ≡ sets (now (out .entry)) 20 (countFields (said a)) ⌝ }
+{
+    put_field(a.instructions, 8, b' ', out, 20);
+    put_field(a.choices, 4, b' ', out, 29);
+    put_field(a.inputs, 4, b' ', out, 34);
+    put_field(a.threads, 4, b'\n', out, 39);
+}
+
+fn put_answer(a: Answer, out: &mut [u8])
+    requires { ⌜ 44 ≤ length (now out) ⌝ }
+    ensures { λ r. ⌜ now (out .exit) ≡ sets (now (out .entry)) 0 (answerLine (said a)) ⌝ }
+{
+    put_stop(a, out);
+    put_counts(a, out);
+}
+
+// Writes the lines of the cells after the answer's line.
+fn put_cells(cells: &[u32], out: &mut [u8])
+    requires { ⌜ 44 + 9 * length (now cells) ≤ length (now out) ⌝ }
+    ensures { λ r. ⌜ now (out .exit) ≡ sets (now (out .entry)) 44 (cellLines (now (cells .entry))) ⌝ }
+{
+    let mut i: usize = 0;
+    while i < cells.len() {
+        put_field(cells[i], 8, b'\n', out, ANSWER_LINE + CELL_LINE * i);
+        i = i + 1;
+    }
+}
+
+fn is_refusal(number: u32) -> bool
+    ensures { λ r. ⌜ r ≡ between 1 number 9 ⌝ }
+{
+    if number < 1 {
+        return false;
+    }
+    number <= 9
+}
+
+// Writes an answer and, unless it is a refusal, the cells.
+fn show(a: Answer, cells: &[u32], out: &mut [u8]) -> usize
+    requires { ⌜ 44 + 9 * length (now cells) ≤ length (now out) ⌝ }
+    ensures { λ r. ⌜ wrote r (now (out .exit)) ≡ put (shown (said a) (now (cells .entry))) (now (out .entry)) ⌝ }
+{
+    put_answer(a, out);
+    if is_refusal(a.number) {
+        return ANSWER_LINE;
+    }
+    put_cells(cells, out);
+    ANSWER_LINE + CELL_LINE * cells.len()
+}
+
+// "Refusals give ff, the line, and zeros."
+fn refuse(number: u8, line: u32, out: &mut [u8]) -> usize
+    requires { ⌜ mostPrinted ≤ length (now out) ⌝ }
+    ensures { λ r. ⌜ wrote r (now (out .exit)) ≡ put (refusal number line) (now (out .entry)) ⌝ }
+{
+    let a = Answer {
+        number: number as u32,
+        body: 0xff,
+        place: line,
+        time: 0,
+        instructions: 0,
+        choices: 0,
+        inputs: 0,
+        threads: 0,
+    };
+    show(a, &[], out)
+}
+
+// The answer from an accepted table on.
+fn from_table(table: &[u64], choices: &[u8], inputs: &[u32], budget: u32, out: &mut [u8]) -> usize
+    requires { ⌜ (judged (now table) .number ≡ 0) × (mostPrinted ≤ length (now out)) ⌝ }
+    ensures { λ r. ⌜ wrote r (now (out .exit)) ≡ put (fromTable (jobOf (now (table .entry)) (now (choices .entry)) (now (inputs .entry)) budget)) (now (out .entry)) ⌝ }
+{
+    let mut cells = [0u32; Image::CELLS as usize];
+    let a = run::run(table, choices, inputs, budget, &mut cells);
+    let h = frame::decode(table[0]);
+    let c = h.imm as usize;
+    show(a, &cells[..c], out)
+}
+
+// The answer from the image on.
+fn from_image(text: &[u8], choices: &[u8], inputs: &[u32], budget: u32, out: &mut [u8]) -> usize
+    requires { ⌜ mostPrinted ≤ length (now out) ⌝ }
+    ensures { λ r. ⌜ wrote r (now (out .exit)) ≡ put (fromImage budget (now (choices .entry)) (now (inputs .entry)) (now (text .entry))) (now (out .entry)) ⌝ }
+{
+    let mut table = [0u64; Image::LINES];
+    let v = lines::read(text, &mut table);
+    let number = v.number();
+    let line = v.line();
+    if number == 0 {
+        return from_table(&table[..line], choices, inputs, budget, out);
+    }
+    refuse(number, line as u32, out)
+}
+
+// The answer from the line of inputs on.
+fn from_inputs(text: &[u8], choices: &[u8], budget: u32, out: &mut [u8]) -> usize
+    requires { ⌜ mostPrinted ≤ length (now out) ⌝ }
+    ensures { λ r. ⌜ wrote r (now (out .exit)) ≡ put (fromInputs budget (now (choices .entry)) (now (text .entry))) (now (out .entry)) ⌝ }
+{
+    let mut inputs = [0u32; Image::INPUTS];
+    let line = line_length(text);
+    let Listed::Count(n) = inputs_of(text, line, &mut inputs) else {
+        return refuse(9, 2, out);
+    };
+    let rest = line + 1;
+    from_image(&text[rest..], choices, &inputs[..n], budget, out)
+}
+
+// The answer from the line of choices on.
+fn from_choices(text: &[u8], budget: u32, out: &mut [u8]) -> usize
+    requires { ⌜ mostPrinted ≤ length (now out) ⌝ }
+    ensures { λ r. ⌜ wrote r (now (out .exit)) ≡ put (fromChoices budget (now (text .entry))) (now (out .entry)) ⌝ }
+{
+    let mut choices = [0u8; Image::CHOICES];
+    let line = line_length(text);
+    let Listed::Count(n) = choices_of(text, line, &mut choices) else {
+        return refuse(9, 1, out);
+    };
+    let rest = line + 1;
+    from_inputs(&text[rest..], &choices[..n], budget, out)
+}
+
+// The answer to a job, from the line of its budget on.
+fn print(job: &[u8], out: &mut [u8]) -> usize
+    requires { ⌜ mostPrinted ≤ length (now out) ⌝ }
+    ensures { λ r. ⌜ wrote r (now (out .exit)) ≡ put (printed (now (job .entry))) (now (out .entry)) ⌝ }
+{
+    let line = line_length(job);
+    let Number::Is(budget) = budget_of(job, line) else {
+        return refuse(9, 0, out);
+    };
+    let rest = line + 1;
+    from_choices(&job[rest..], budget as u32, out)
+}
+
+// Writes the answer to a job to the start of out and answers how many bytes it has; writes nothing and answers 0 where out has not room
+// for the longest answer.
+pub fn answer(job: &[u8], out: &mut [u8]) -> usize
+    ensures { λ r. ⌜ wrote r (now (out .exit)) ≡ answered (now (job .entry)) (now (out .entry)) ⌝ }
+{
+    if out.len() < LONGEST_ANSWER {
+        return 0;
+    }
+    print(job, out)
+}
