@@ -1,8 +1,10 @@
 pub mod Search
 pub mod Design
+pub mod History
 pub mod Kernel
 pub mod Pending
 pub mod Effect
+pub mod Asking
 pub mod Machine
 pub mod Step
 pub mod Run
@@ -10,3 +12,4 @@ pub mod Enough
 pub mod Marked
 pub mod Words
 pub mod Demand
+pub mod Looms

@@ -13,7 +13,7 @@ use Rattle.frame.specs.declared.Frame.{Frame}
 use Rattle.frame.specs.Fields.{fields}
 use Rattle.frame.specs.Ops.{meaningOf}
 use Rattle.kernel.specs.Search.{Found, none, found, nth, any, first, sum}
-use Rattle.kernel.specs.Kernel.{Due, never, delta, at}
+use Rattle.kernel.specs.History.{Due, never, delta, at}
 use Rattle.kernel.specs.Pending.{dueOf, isTime}
 use Rattle.kernel.proofs.Search.{first-found}
 use Rattle.phases.proofs.Loops.{any-found}

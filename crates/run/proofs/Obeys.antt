@@ -17,13 +17,12 @@ use Rattle.image.specs.Layout.{frame, counts, bodies, len, first}
 use Rattle.image.specs.Judge.{judged}
 use Rattle.kernel.specs.Search.{Found, none, found, nth, edit, sum}
 use Rattle.kernel.specs.Design.{Table, Body, main, thread, update, threads, events, updates, number}
-use Rattle.kernel.specs.Kernel.{Due, never, delta, at, earlier, afterDelay, Wait, on, till, Thread, suspending, asksBack, Kernel, Deed, nothing, notifies, asks, waits, requests, suspends, resumes, ran, began, Stage, before, during, past, after, kernel}
+use Rattle.kernel.specs.Kernel.{Due, never, delta, at, earlier, afterDelay, Wait, on, till, Thread, suspending, asksBack, Kernel, Deed, nothing, reads, notifies, asks, waits, requests, suspends, resumes, ran, began, Stage, before, during, past, after, kernel}
 use Rattle.kernel.specs.Pending.{isFree, dueOf, isTime, timesOf}
 use Rattle.kernel.specs.Effect.{View, Effect, stops, sets, takes, goes, does, begins, stopIf, takesTo, startsIn, mainPast, isNever, asksFor, effect}
 use Rattle.kernel.specs.Machine.{Job, Control as Place, running, updatePhase, evaluation, over, Machine, State, out}
-use Rattle.kernel.specs.Step.{runsOn, perform, view, advance, step}
-use Rattle.kernel.proofs.Search.{nth-some}
-use Rattle.kernel.proofs.Branch.{effectOf}
+use Rattle.kernel.specs.Step.{runsOn, perform, view, effectOf, advance, step}
+use Rattle.kernel.proofs.Search.{nth-some, sum-same}
 use Rattle.kernel.proofs.Fits.{Fits, fits-step}
 use Rattle.phases.specs.Codes.{lastTime, forNothing, firstEvent, momentOf, pendOf, waitOf, threadOf, requestedOf}
 use Rattle.phases.specs.Phases.{mayRun, pendCount, waitCount, changed, askCode, earlierCode, freedCode, suspendCode, resumeCode}
@@ -49,6 +48,7 @@ false-true e =
 ran-numbers : {A : Type 0} (f : Kernel → A) → ((c k : Kernel) → c .now ≡ k .now → c .limit ≡ k .limit → c .stage ≡ k .stage → f c ≡ f k) → (b : Body) (x : Deed) (k : Kernel) → f (after (ran b x) k) ≡ f k
 unfolding after
 ran-numbers f h b nothing k = refl
+ran-numbers f h b reads k = refl
 ran-numbers f h b (notifies e) k = h _ k refl refl refl
 ran-numbers f h b (asks e d) k = h _ k refl refl refl
 ran-numbers f h main (waits w) k = refl
@@ -81,11 +81,6 @@ never-is : (c : ℕ) → isNever (pendOf c) ≡ ltb lastTime c
 never-is c =
     P.by-size (isNever (pendOf c) ≡ ltb lastTime c) lastTime c (λ h. rw (P.pend-low c h, le-ltb lastTime c h) (moment-pends c))
     (λ h. rw (P.pend-high c h, lt-ltb lastTime c h))
-
-pub sum-same : (f g : ℕ → ℕ) (n : ℕ) → ((i : ℕ) → i < n → f i ≡ g i) → sum f n ≡ sum g n
-unfolding sum
-sum-same f g zero h = refl
-sum-same f g (suc n) h = rw (h n (omega arith), sum-same f g n (λ i l. h i (omega arith)))
 
 times-are : (t : Table) (k : Kernel) (l : Lists) → Shows t k l → timesIn l ≡ timesOf t k
 unfolding timesOf
