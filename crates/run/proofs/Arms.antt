@@ -36,7 +36,7 @@ use Rattle.run.specs.declared.Now.{Now}
 use Rattle.run.specs.declared.Obeyed.{Obeyed}
 use Rattle.run.specs.declared.Obeyed.the-variants.{Stops, Goes, Took, Begins}
 use Rattle.run.specs.Stands.{Lists, lists}
-use Rattle.run.specs.Code.{goesTo, dispatch, chosenBy, choiceBy, idleOr, evaluated, asked, entersTo, entersAt, servedTo, leastOf, closed, movedTo, timedBy, servedBy, phaseNumber, endsTo, endsIn, Did, did, isPast, tookBy, waitsIn, timesIn, full, dueBy, inTime, startsBy, code, obeyed, staysAt, nextInput, withLeft, completedTo, completedAt, completed, ranTo, afterPlain, bodyRun, firstNow, firstRan, turnFrom, turn, isOver, turns, Code}
+use Rattle.run.specs.Code.{goesTo, dispatch, chosenBy, choiceBy, idleOr, evaluated, asked, whenIdle, entersTo, entersAt, servedTo, leastOf, closed, movedTo, timedBy, servedBy, phaseNumber, endsTo, endsIn, Did, did, isPast, tookBy, waitsIn, timesIn, full, dueBy, inTime, startsBy, code, obeyed, staysAt, nextInput, withLeft, completedTo, completedAt, completed, ranTo, afterPlain, bodyRun, firstNow, firstRan, turnFrom, turn, isOver, turns, Code}
 
 -- place i of a list
 nth-past : (l : List ℕ) (i : ℕ) → length l ≤ i → nth l i ≡ none
@@ -123,6 +123,14 @@ module _ (choices : List ℕ) (n : Now) (ws ms : List ℕ) (r : Choice) (h : r �
       by (found d) g y = ap (λ (w : Now). if any (mayRun ws ms) (length ws) then w else goesTo idle n) (sym (named d (mayRun ws ms d) y))
 
 pub ruleset evaluated-laws = (evaluated-chosen, evaluated-refused)
+
+-- Where evaluation leads
+module _ (rs : List ℕ) (r : FoundCode) (h : foundOf r ≡ first (requestedAt rs) (length rs)) where
+  pub idle-none : r ≡ FoundNothing → DeltaPhase ≡ whenIdle (asked rs)
+  idle-none e = rw (sym h ∙ ap foundOf e)
+
+  pub idle-some : (u : ℕ) → r ≡ FoundAt u → UpdatePhase ≡ whenIdle (asked rs)
+  idle-some u e = rw (sym h ∙ ap foundOf e)
 
 -- The update phase
 module _ (t : ℕ) (rs ps : List ℕ) (n : Now) (r : FoundCode) (h : foundOf r ≡ first (requestedAt rs) (length rs)) where
@@ -493,9 +501,9 @@ module _ (table choices inputs firsts : List ℕ) (n : Now) (l : Lists) (ps cs :
   unfolding turn
   turn-turn x e q = rw (e, q)
 
-  pub turn-evaluation : (x : Now) → n .control ≡ Evaluation → x ≡ evaluated choices UpdatePhase n (l .waits) (l .modes) → Turned (code x l ps cs)
+  pub turn-evaluation : (x : Now) (idle : Control) → n .control ≡ Evaluation → idle ≡ whenIdle (asked (l .requests)) → x ≡ evaluated choices idle n (l .waits) (l .modes) → Turned (code x l ps cs)
   unfolding turn
-  turn-evaluation x e q = rw (e, q)
+  turn-evaluation x idle e i q = rw (e, q, i)
 
   pub turn-over : (k b p : ℕ) → n .control ≡ Over k b p → Turned here
   unfolding turn

@@ -37,7 +37,7 @@ use Rattle.run.specs.declared.Control.{Control}
 use Rattle.run.specs.declared.Control.the-variants.{Runs, UpdatePhase, DeltaPhase, Turn, Evaluation, TimePhase, Over}
 use Rattle.run.specs.declared.Now.{Now}
 use Rattle.run.specs.Stands.{Lists, lists, bodyOf, placeOf, stageOf, Shows, Stands}
-use Rattle.run.specs.Code.{Code, code, goesTo, withLeft, chosenBy, evaluated, phaseNumber, endsTo, endsIn, obeyed, completed, ranTo, afterPlain, bodyRun, turnFrom, turn}
+use Rattle.run.specs.Code.{Code, code, goesTo, withLeft, chosenBy, evaluated, asked, whenIdle, phaseNumber, endsTo, endsIn, obeyed, completed, ranTo, afterPlain, bodyRun, turnFrom, turn}
 use Rattle.run.proofs.Shows.{shows-mode, shows-requests}
 use Rattle.run.proofs.Moves.{goes-to, evaluates, turns, serves-delta, enters-update, times}
 use Rattle.run.proofs.Bodies.{number-of, place-is, paid-is, Ending, PlainRan, ran-plain}
@@ -246,6 +246,22 @@ module _ (j : Job) (rest firsts : List ℕ) (g : Given j rest firsts) where
           reaches-two j rest s _ (rw (a, same-choice (nth (j .choices) (c .now .chosen))) at (evaluates j rest (step j s) (goesTo Evaluation (c .now)) l (c .places) (c .cells) st′ refl))
       on false a = reaches-one j rest s _ (turns j rest s (c .now) l (c .places) (c .cells) st here false a)
 
+  -- evaluation, and with nothing left of it and no update requested the delta phase
+  evaluation-taken : (s : State) (c : Code) → StandsAt j rest s c → placeOf (threads (j .table)) (c .now .control) ≡ evaluation → Reaches j rest s (code (evaluated (j .choices) (whenIdle (asked (c .lists .requests))) (c .now) (c .lists .waits) (c .lists .modes)) (c .lists) (c .places) (c .cells))
+  unfolding evaluated
+  evaluation-taken s c st here = on (any (mayRun (l .waits) (l .modes)) (length (l .waits))) refl
+    where
+      l : Lists
+      l = c .lists
+
+      idle : Stands j rest (step j s) (goesTo UpdatePhase (c .now)) l (c .places) (c .cells) → (f : Found) → asked (l .requests) ≡ f → Reaches j rest s (code (goesTo (whenIdle f) (c .now)) l (c .places) (c .cells))
+      idle st′ (found u) e = reaches-one j rest s _ st′
+      idle st′ none e = reaches-two j rest s _ (rw e at (enters-update j rest (step j s) (goesTo UpdatePhase (c .now)) l (c .places) (c .cells) st′ refl))
+
+      on : (z : Bool) → any (mayRun (l .waits) (l .modes)) (length (l .waits)) ≡ z → Reaches j rest s (code (if z then chosenBy (nth (j .choices) (c .now .chosen)) (c .now) (l .waits) (l .modes) else goesTo (whenIdle (asked (l .requests))) (c .now)) l (c .places) (c .cells))
+      on true a = reaches-one j rest s _ (rw a at (evaluates j rest s (c .now) l (c .places) (c .cells) st here))
+      on false a = idle (rw a at (evaluates j rest s (c .now) l (c .places) (c .cells) st here)) (asked (l .requests)) refl
+
   pub turn-follows : (s : State) (c : Code) → StandsAt j rest s c → Reaches j rest s (turn (j .table) (j .choices) (j .inputs) firsts c)
   unfolding turn
   turn-follows s c st = by (c .now .control) refl
@@ -268,7 +284,7 @@ module _ (j : Job) (rest firsts : List ℕ) (g : Given j rest firsts) where
           rw (st .shows .all-waits) (reaches-one j rest s _ (enters-update j rest s (c .now) (c .lists) (c .places) (c .cells) st (stood UpdatePhase e)))
       by DeltaPhase e = reaches-one j rest s _ (serves-delta j rest s (c .now) (c .lists) (c .places) (c .cells) st (stood DeltaPhase e))
       by Turn e = turn-taken s c st (stood Turn e)
-      by Evaluation e = reaches-one j rest s _ (evaluates j rest s (c .now) (c .lists) (c .places) (c .cells) st (stood Evaluation e))
+      by Evaluation e = evaluation-taken s c st (stood Evaluation e)
       by TimePhase e = reaches-one j rest s _ (times j rest s (c .now) (c .lists) (c .places) (c .cells) st (stood TimePhase e))
       by (Over k b p) e =
           reaches-one j rest s c

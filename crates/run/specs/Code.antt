@@ -70,6 +70,11 @@ idleOr k idle n ws ms = if any (mayRun ws ms) (length ws) then goesTo (Over k 0x
 abbrev pub asked : List ℕ → Found
 asked rs = first (requestedAt rs) (length rs)
 
+-- where evaluation leads once no thread is runnable
+abbrev pub whenIdle : Found → Control
+whenIdle none = DeltaPhase
+whenIdle (found u) = UpdatePhase
+
 abbrev pub entersTo : (t : ℕ) → Found → Now → Now
 entersTo t none n = goesTo DeltaPhase n
 entersTo t (found u) n = goesTo (Runs (t + 1 + u)) n
@@ -261,7 +266,7 @@ module _ (table choices inputs firsts : List ℕ) (c : Code) where
       code (entersTo (length (l .waits)) (asked (l .requests)) n) l (entersAt (length (l .waits)) (asked (l .requests)) (c .places)) (c .cells)
   turnFrom DeltaPhase = code (goesTo Turn n) (servedTo 0 (map resumedCode (l .modes)) l) (c .places) (c .cells)
   turnFrom Turn = code (evaluated choices TimePhase n (l .waits) (l .modes)) l (c .places) (c .cells)
-  turnFrom Evaluation = code (evaluated choices UpdatePhase n (l .waits) (l .modes)) l (c .places) (c .cells)
+  turnFrom Evaluation = code (evaluated choices (whenIdle (asked (l .requests))) n (l .waits) (l .modes)) l (c .places) (c .cells)
   turnFrom TimePhase = code (timedBy (leastOf (l .pends) (l .waits)) n) (servedBy (leastOf (l .pends) (l .waits)) n l) (c .places) (c .cells)
   turnFrom (Over k b p) = c
 

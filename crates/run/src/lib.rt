@@ -19,7 +19,7 @@ ghost use Rattle.phases.specs.Phases.{changed, earlierCode, freedCode, resumedC
 ghost use Rattle.plain.specs.Plain.{runPlain};
 ghost use Rattle.plain.specs.Laws.{Inside};
 ghost use Rattle.run.specs.Stands.{lists, Firsts};
-ghost use Rattle.run.specs.Code.{Code, code, goesTo, choiceBy, idleOr, evaluated, asked, entersTo, entersAt, servedTo, leastOf, closed, movedTo, timedBy, servedBy, phaseNumber, isThread, endsTo, endsIn, did, isPast, waitsIn, full, dueBy, tookBy, inTime, startsBy, obeyed, staysAt, nextInput, withLeft, completedTo, completedAt, completed, ranTo, afterPlain, bodyRun, turn, isOver, turns, firstNow, firstRan, started, firstLists, zeroed, jobOf, said, refusedAt, answerAs, answered, told};
+ghost use Rattle.run.specs.Code.{Code, code, goesTo, choiceBy, idleOr, evaluated, asked, whenIdle, entersTo, entersAt, servedTo, leastOf, closed, movedTo, timedBy, servedBy, phaseNumber, isThread, endsTo, endsIn, did, isPast, waitsIn, full, dueBy, tookBy, inTime, startsBy, obeyed, staysAt, nextInput, withLeft, completedTo, completedAt, completed, ranTo, afterPlain, bodyRun, turn, isOver, turns, firstNow, firstRan, started, firstLists, zeroed, jobOf, said, refusedAt, answerAs, answered, told};
 ghost use Rattle.image.specs.Layout.{bodies as bodiesOf};
 ghost use Rattle.image.specs.Judge.{judged};
 ghost use Rattle.kernel.specs.Run.{runs, asked as askedFor};
@@ -107,7 +107,7 @@ fn idle_or(n: Now, k: u8, idle: Control, waits: &[u64], modes: &[u8]) -> Now
 }
 
 // Evaluation: the next choice names the thread that is dispatched. Where it names a runnable one, no other need be looked at. Where
-// none is runnable the update phase follows, or time where that was asked after the delta phase.
+// none is runnable the machine goes to `idle`: the updates after evaluation, time after the delta phase.
 fn evaluate(choices: &[u8], n: Now, idle: Control, waits: &[u64], modes: &[u8]) -> Now
     ensures { λ r. ⌜ r ≡ evaluated (now (choices .entry)) idle n (now (waits .entry)) (now (modes .entry)) ⌝ }
 {
@@ -146,6 +146,16 @@ fn update_phase(n: Now, threads: usize, requests: &[u8], places: &mut [usize]) -
     let b = threads + 1 + u;
     put_place(places, b, 0);
     to(n, Control::Runs(b))
+}
+
+// Where evaluation leads once no thread is runnable: with no update requested, the delta phase at once.
+fn after_evaluation(requests: &[u8]) -> Control
+    ensures { λ r. ⌜ r ≡ whenIdle (asked (now (requests .entry))) ⌝ }
+{
+    let Found::At(_) = phases::first_requested(requests) else {
+        return Control::DeltaPhase;
+    };
+    Control::UpdatePhase
 }
 
 // The delta phase: all delta work is done together.
@@ -769,7 +779,7 @@ fn turn_once(
         Control::UpdatePhase => update_phase(n, waits.len(), requests, places),
         Control::DeltaPhase => delta_phase(n, pends, waits, modes),
         Control::Turn => evaluate(choices, n, Control::TimePhase, waits, modes),
-        Control::Evaluation => evaluate(choices, n, Control::UpdatePhase, waits, modes),
+        Control::Evaluation => evaluate(choices, n, after_evaluation(requests), waits, modes),
         Control::TimePhase => time_phase(n, pends, waits),
         Control::Over(_, _, _) => n,
     }

@@ -30,6 +30,9 @@ evaluate-requires c κs = search needs
 enum-told-4 : tie.Need-enum-told-4
 enum-told-4 c = search needs
 
+after-evaluation-requires : tie.Need-after-evaluation-requires
+after-evaluation-requires c κs = search needs
+
 evaluate-requires-2 : tie.Need-evaluate-requires-2
 evaluate-requires-2 c κs = search needs
 
@@ -99,14 +102,17 @@ same-length-14 c = search needs
 same-length-15 : tie.Need-same-length-15
 same-length-15 c = search needs
 
-returns-5 : tie.Need-returns-5
-returns-5 c = search (turn-body, turn-update, turn-delta, turn-turn, turn-evaluation, turn-time, turn-over, needs)
-
 same-length-16 : tie.Need-same-length-16
 same-length-16 c = search needs
 
+returns-5 : tie.Need-returns-5
+returns-5 c = search (turn-body, turn-update, turn-delta, turn-turn, turn-evaluation, turn-time, turn-over, needs)
+
 same-length-17 : tie.Need-same-length-17
 same-length-17 c = search needs
+
+same-length-18 : tie.Need-same-length-18
+same-length-18 c = search needs
 
 returns-6 : tie.Need-returns-6
 returns-6 c = search (turn-body, turn-update, turn-delta, turn-turn, turn-evaluation, turn-time, turn-over, needs)
@@ -127,6 +133,7 @@ turn-once-spec =
     enum-told-3
     evaluate-requires
     enum-told-4
+    after-evaluation-requires
     evaluate-requires-2
     enum-told-5
     time-phase-requires
@@ -150,8 +157,9 @@ turn-once-spec =
     returns-4
     same-length-14
     same-length-15
-    returns-5
     same-length-16
+    returns-5
     same-length-17
+    same-length-18
     returns-6
     returns-7)
