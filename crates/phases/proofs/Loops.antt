@@ -14,9 +14,11 @@ use Rattle.laws.specs.Choice.{if_then_else_}
 use Rattle.kernel.specs.Search.{Found, none, found, any, first, lesser, least, sum}
 use Rattle.kernel.specs.Kernel.{Due, never, delta, at}
 use Rattle.kernel.specs.Pending.{timeOf, isTime}
-use Rattle.phases.specs.Codes.{lastTime, forNothing, momentOf, pendOf, endedOf, requestedOf}
-use Rattle.phases.specs.Phases.{requestedAt, Least, pendTime, waitTime, pendCount, waitCount, overCode, bitCode, bitOf}
+use Rattle.kernel.proofs.Search.{any-none, any-all}
+use Rattle.phases.specs.Codes.{lastTime, forNothing, momentOf, pendOf, endedOf, threadOf, requestedOf}
+use Rattle.phases.specs.Phases.{ready, mayRun, requestedAt, Least, pendTime, waitTime, pendCount, waitCount, overCode, bitCode, bitOf}
 use Rattle.phases.specs.Laws.{pend-low, pend-high, by-size, same-due}
+use Rattle.phases.proofs.Arms.{no-wait, no-mode, thread-runs}
 
 -- Each element x becomes f x ---------------------------------------------------------------------------------------
 
@@ -87,22 +89,38 @@ or-true true = refl
 or-true false = refl
 
 module _ (p : ℕ → Bool) where
-  pub any-starts : false ≡ any p 0
-  unfolding any
-  any-starts = refl
-
-  pub any-turn : (i : ℕ) (r : Bool) → false ≡ any p i → r ≡ p i → r ≡ false → false ≡ any p (i + 1)
-  unfolding any
-  any-turn i r h e k = rw (add-one i, ← e, k) h
-
   pub any-found : (i n : ℕ) (r : Bool) → r ≡ p i → r ≡ true → i < n → true ≡ any p n
   unfolding any
   any-found i n r e k l = stays (λ n. true ≡ any p n) i (rw (← e, k)) (λ n h. rw (← h, or-true)) n l
 
-  pub any-end : (i n m : ℕ) → false ≡ any p i → i ≤ n → n ≤ i → n ≡ m → false ≡ any p m
-  any-end i n m e a b k = at-end Bool (any p) false i n m e a b k
+-- the threads; n of them have both a wait and a mode
+module _ (ws ms : List ℕ) where
+  pub any-starts : false ≡ any (mayRun ws ms) 0
+  unfolding any
+  any-starts = refl
 
-pub ruleset any-laws = (any-starts, any-turn, any-found, any-end)
+  module _ (n : ℕ) (e : n ≡ min (length ws) (length ms)) where
+    tested : (i : ℕ) (r : Bool) → i < n → r ≡ ready (threadOf (getD ws i 0) (getD ms i 0)) → r ≡ mayRun ws ms i
+    tested i r l h = thread-runs ws ms i r (omega arith) (omega arith) h
+
+    no-other : (i : ℕ) → n ≤ i → mayRun ws ms i ≡ false
+    no-other i h =
+        by-size (mayRun ws ms i ≡ false) i (length ws) (λ g. sym (no-wait ws ms i g)) (λ g. sym (no-mode ws ms i g (omega arith)))
+
+    pub any-turn : (i : ℕ) (r : Bool) → i < n → false ≡ any (mayRun ws ms) i → r ≡ ready (threadOf (getD ws i 0) (getD ms i 0)) → r ≡ false → false ≡ any (mayRun ws ms) (i + 1)
+    unfolding any
+    any-turn i r l h q k = rw (add-one i, ← tested i r l q, k) h
+
+    pub any-hit : (i : ℕ) (r : Bool) → i < n → r ≡ ready (threadOf (getD ws i 0) (getD ms i 0)) → r ≡ true → true ≡ any (mayRun ws ms) (length ws)
+    any-hit i r l q k = any-found (mayRun ws ms) i (length ws) r (tested i r l q) k (omega arith)
+
+    pub any-end : (i : ℕ) → n ≤ i → false ≡ any (mayRun ws ms) i → false ≡ any (mayRun ws ms) (length ws)
+    any-end i g h =
+        sym
+        (any-all (mayRun ws ms) (length ws)
+        (λ k l. by-size (mayRun ws ms k ≡ false) k i (λ m. no-other k (omega arith)) (any-none (mayRun ws ms) i (sym h) k)))
+
+pub ruleset any-laws = (any-starts, any-turn, any-hit, any-end)
 
 module _ (rs : List ℕ) where
   pub first-starts : none ≡ first (requestedAt rs) 0

@@ -59,12 +59,12 @@ pub fn runnable(waits: &[u64], modes: &[u8], i: usize) -> bool
     may_run(waits[i], modes[i])
 }
 
-// Whether a thread is runnable.
+// Whether a thread is runnable. None is without both a wait and a mode.
 pub fn any_runnable(waits: &[u64], modes: &[u8]) -> bool
     ensures { λ r. ⌜ r ≡ any (mayRun (now (waits .entry)) (now (modes .entry))) (length (now (waits .entry))) ⌝ }
 {
-    for i in 0..waits.len() {
-        if runnable(waits, modes, i) {
+    for i in 0..lesser_of(waits.len() as u64, modes.len() as u64) as usize {
+        if may_run(waits[i], modes[i]) {
             return true;
         }
     }

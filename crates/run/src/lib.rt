@@ -441,13 +441,20 @@ fn obey(
 {
     let op = f.op;
     let d = f.d as usize;
-    let q = phases::ask(n.time, cell_at(cells, f.a as usize));
+    let a = f.a as usize;
     match op {
         0x03 => take_input(d, n.taken, inputs, cells),
         0x60 => wait_event(b, d, waits),
-        0x61 => wait_time(b, q, pends, waits),
+        0x61 => wait_time(b, phases::ask(n.time, cell_at(cells, a)), pends, waits),
         0x62 => notify(b, n.stage, d, pends, waits),
-        0x63 => notify_after(b, n.stage, d, q, pends, waits),
+        0x63 => notify_after(
+            b,
+            n.stage,
+            d,
+            phases::ask(n.time, cell_at(cells, a)),
+            pends,
+            waits,
+        ),
         0x64 => request(b, n.stage, d, requests),
         0x65 => suspend(b, n.stage, d, modes),
         0x66 => resume(b, n.stage, d, modes),

@@ -1,4 +1,4 @@
-use Prim.Native.Nat.{_≤_, _-_}
+use Prim.Native.Nat.{_-_, min}
 use mathlib.Core.Path.{_≡_}
 use mathlib.Core.Bool.{false}
 use lib.ListN.{length}
@@ -10,16 +10,28 @@ use Rattle.phases.proofs.any_runnable.Statement.{statement}
 use Rattle.phases.proofs.any_runnable.Tie as tie
 
 abbrev Inv-loop : tie.InvT-loop
-Inv-loop waits modes i₀ i-end i = (i ≤ i-end) × (i-end ≡ length waits) × (false ≡ any (mayRun waits modes) i)
+Inv-loop waits modes i₀ i-end i = (i-end ≡ min (length waits) (length modes)) × (false ≡ any (mayRun waits modes) i)
 
 abbrev μ-loop : tie.MeasureT-loop
 μ-loop waits modes i₀ i-end i = i-end - i
 
+lesser-of-requires : tie.Need-lesser-of-requires Inv-loop μ-loop
+lesser-of-requires c κs = search needs
+
 loop-holds : tie.Need-loop-holds Inv-loop μ-loop
 loop-holds c = search (any-laws, needs)
 
-runnable-requires : tie.Need-runnable-requires Inv-loop μ-loop
-runnable-requires c κs = search needs
+mul-may-run : tie.Need-mul-may-run Inv-loop μ-loop
+mul-may-run c = search needs
+
+shared-slice-read-may-run : tie.Need-shared-slice-read-may-run Inv-loop μ-loop
+shared-slice-read-may-run c = search needs
+
+shared-slice-read-may-run-2 : tie.Need-shared-slice-read-may-run-2 Inv-loop μ-loop
+shared-slice-read-may-run-2 c = search needs
+
+may-run-requires : tie.Need-may-run-requires Inv-loop μ-loop
+may-run-requires c κs = search needs
 
 returns : tie.Need-returns Inv-loop μ-loop
 returns c = search any-laws
@@ -42,8 +54,12 @@ any-runnable-spec =
     (tie.spec
     Inv-loop
     μ-loop
+    lesser-of-requires
     loop-holds
-    runnable-requires
+    mul-may-run
+    shared-slice-read-may-run
+    shared-slice-read-may-run-2
+    may-run-requires
     returns
     add-i
     loop-less

@@ -6,14 +6,8 @@ use Rattle.run.proofs.obey.Tie as tie
 cast-d : tie.Need-cast-d
 cast-d c = search needs
 
-cast-cell-at : tie.Need-cast-cell-at
-cast-cell-at c = search needs
-
-cell-at-requires : tie.Need-cell-at-requires
-cell-at-requires c κs = search needs
-
-ask-requires : tie.Need-ask-requires
-ask-requires c κs = search needs
+cast-a : tie.Need-cast-a
+cast-a c = search needs
 
 take-input-requires : tie.Need-take-input-requires
 take-input-requires c κs = search needs
@@ -21,11 +15,23 @@ take-input-requires c κs = search needs
 wait-event-requires : tie.Need-wait-event-requires
 wait-event-requires c κs = search needs
 
+cell-at-requires : tie.Need-cell-at-requires
+cell-at-requires c κs = search needs
+
+ask-requires : tie.Need-ask-requires
+ask-requires c κs = search needs
+
 wait-time-requires : tie.Need-wait-time-requires
 wait-time-requires c κs = search needs
 
 notify-requires : tie.Need-notify-requires
 notify-requires c κs = search needs
+
+cell-at-requires-2 : tie.Need-cell-at-requires-2
+cell-at-requires-2 c κs = search needs
+
+ask-requires-2 : tie.Need-ask-requires-2
+ask-requires-2 c κs = search needs
 
 notify-after-requires : tie.Need-notify-after-requires
 notify-after-requires c κs = search needs
@@ -57,11 +63,11 @@ returns c = search (obey-laws, needs)
 same-length-2 : tie.Need-same-length-2
 same-length-2 c = search needs
 
-same-length-3 : tie.Need-same-length-3
-same-length-3 c = search needs
-
 returns-2 : tie.Need-returns-2
 returns-2 c = search (obey-laws, needs)
+
+same-length-3 : tie.Need-same-length-3
+same-length-3 c = search needs
 
 same-length-4 : tie.Need-same-length-4
 same-length-4 c = search needs
@@ -69,14 +75,17 @@ same-length-4 c = search needs
 same-length-5 : tie.Need-same-length-5
 same-length-5 c = search needs
 
-same-length-6 : tie.Need-same-length-6
-same-length-6 c = search needs
-
 returns-3 : tie.Need-returns-3
 returns-3 c = search (obey-laws, needs)
 
+same-length-6 : tie.Need-same-length-6
+same-length-6 c = search needs
+
 same-length-7 : tie.Need-same-length-7
 same-length-7 c = search needs
+
+returns-4 : tie.Need-returns-4
+returns-4 c = search (obey-laws, needs)
 
 same-length-8 : tie.Need-same-length-8
 same-length-8 c = search needs
@@ -84,62 +93,35 @@ same-length-8 c = search needs
 same-length-9 : tie.Need-same-length-9
 same-length-9 c = search needs
 
-returns-4 : tie.Need-returns-4
-returns-4 c = search (obey-laws, needs)
-
 same-length-10 : tie.Need-same-length-10
 same-length-10 c = search needs
-
-same-length-11 : tie.Need-same-length-11
-same-length-11 c = search needs
-
-same-length-12 : tie.Need-same-length-12
-same-length-12 c = search needs
 
 returns-5 : tie.Need-returns-5
 returns-5 c = search (obey-laws, needs)
 
-same-length-13 : tie.Need-same-length-13
-same-length-13 c = search needs
-
-same-length-14 : tie.Need-same-length-14
-same-length-14 c = search needs
+same-length-11 : tie.Need-same-length-11
+same-length-11 c = search needs
 
 returns-6 : tie.Need-returns-6
 returns-6 c = search (obey-laws, needs)
 
-same-length-15 : tie.Need-same-length-15
-same-length-15 c = search needs
-
-same-length-16 : tie.Need-same-length-16
-same-length-16 c = search needs
+same-length-12 : tie.Need-same-length-12
+same-length-12 c = search needs
 
 returns-7 : tie.Need-returns-7
 returns-7 c = search (obey-laws, needs)
 
-same-length-17 : tie.Need-same-length-17
-same-length-17 c = search needs
-
-same-length-18 : tie.Need-same-length-18
-same-length-18 c = search needs
+same-length-13 : tie.Need-same-length-13
+same-length-13 c = search needs
 
 returns-8 : tie.Need-returns-8
 returns-8 c = search (obey-laws, needs)
 
-same-length-19 : tie.Need-same-length-19
-same-length-19 c = search needs
-
 returns-9 : tie.Need-returns-9
 returns-9 c = search (obey-laws, needs)
 
-same-length-20 : tie.Need-same-length-20
-same-length-20 c = search needs
-
 returns-10 : tie.Need-returns-10
 returns-10 c = search (obey-laws, needs)
-
-same-length-21 : tie.Need-same-length-21
-same-length-21 c = search needs
 
 returns-11 : tie.Need-returns-11
 returns-11 c = search (obey-other, needs)
@@ -149,13 +131,15 @@ obey-spec =
     tie.close
     (tie.spec
     cast-d
-    cast-cell-at
-    cell-at-requires
-    ask-requires
+    cast-a
     take-input-requires
     wait-event-requires
+    cell-at-requires
+    ask-requires
     wait-time-requires
     notify-requires
+    cell-at-requires-2
+    ask-requires-2
     notify-after-requires
     request-requires
     suspend-requires
@@ -166,32 +150,24 @@ obey-spec =
     same-length
     returns
     same-length-2
-    same-length-3
     returns-2
+    same-length-3
     same-length-4
     same-length-5
-    same-length-6
     returns-3
+    same-length-6
     same-length-7
+    returns-4
     same-length-8
     same-length-9
-    returns-4
     same-length-10
-    same-length-11
-    same-length-12
     returns-5
-    same-length-13
-    same-length-14
+    same-length-11
     returns-6
-    same-length-15
-    same-length-16
+    same-length-12
     returns-7
-    same-length-17
-    same-length-18
+    same-length-13
     returns-8
-    same-length-19
     returns-9
-    same-length-20
     returns-10
-    same-length-21
     returns-11)
