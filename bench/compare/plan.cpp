@@ -58,7 +58,7 @@ Frame any_plain(Random &r, const Plan &plan) {
 
 Frame any_instruction(Random &r, const Plan &plan, BodyKind kind, uint32_t length) {
   const auto cell = [&] { return r.below(plan.cells); };
-  std::vector<Frame> may = {any_plain(r, plan), any_plain(r, plan), go(r.between(0, length)), go_if(cell(), r.between(0, length)),
+  std::vector<Frame> may = {any_plain(r, plan), any_region(r, plan), go(r.between(0, length)), go_if(cell(), r.between(0, length)),
                             assert_that(cell()), assume_that(cell())};
   if (plan.events > 0) may.push_back(notify_after(r.below(plan.events), cell()));
   if (plan.events > 0 && kind != BodyKind::update) may.push_back(notify(r.below(plan.events)));

@@ -10,15 +10,13 @@ namespace {
 
 using Differs = std::function<bool(const Case &)>;
 
-constexpr int most_tries = 20000;
-
 class Reducer {
 public:
-  Reducer(Case c, const Differs &differs) : best_(std::move(c)), differs_(differs) {}
+  Reducer(Case c, const Differs &differs, int most_tries) : best_(std::move(c)), differs_(differs), most_tries_(most_tries) {}
 
   Case reduce() {
     bool smaller = true;
-    while (smaller && tries_ < most_tries) {
+    while (smaller && tries_ < most_tries_) {
       smaller = drop_from(best_.job.choices, &independent::Job::choices);
       smaller = drop_from(best_.job.inputs, &independent::Job::inputs) || smaller;
       smaller = lower_budget() || smaller;
@@ -29,8 +27,7 @@ public:
 
 private:
   bool better(const Case &c) {
-    ++tries_;
-    if (!differs_(c)) return false;
+    if (++tries_ > most_tries_ || !differs_(c)) return false;
     best_ = c;
     return true;
   }
@@ -172,11 +169,12 @@ private:
 
   Case best_;
   const Differs &differs_;
+  const int most_tries_;
   int tries_ = 0;
 };
 
 } // namespace
 
-Case reduced(Case c, const Differs &differs) { return Reducer(std::move(c), differs).reduce(); }
+Case reduced(Case c, const Differs &differs, int most_tries) { return Reducer(std::move(c), differs, most_tries).reduce(); }
 
 } // namespace compare
