@@ -2,6 +2,7 @@
 // until a difference shows. A rule counts as passed if one does.
 #include "differ.hpp"
 #include "drawn.hpp"
+#include "reduce.hpp"
 
 #include "../independent/planted.hpp"
 
@@ -33,8 +34,9 @@ bool found(const Planted &planted, uint64_t seed) {
     const compare::Drawn drawn = compare::drawn_job(seed, i);
     const auto difference = compare::difference(drawn.made.job, drawn.made.expected);
     if (!difference) continue;
+    const compare::Case small = compare::reduced(drawn.made.job, [](const compare::Case &c) { return compare::difference(c).has_value(); }, 2000);
     std::cout << "found after " << i + 1 << " jobs: " << planted.words << " (" << drawn.kind->name << ", " << difference->call << ": " << difference->what
-              << ")\n";
+              << "; reduced to " << small.job.table.size() << " frames, " << small.job.choices.size() << " choices)\n";
     return true;
   }
   std::cout << "FAILED: not found: " << planted.words << '\n';

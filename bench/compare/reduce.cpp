@@ -67,7 +67,13 @@ private:
     c.job.table = plan.table();
     c.text = lines_of(c.job.table);
     c.byte_room = std::max(c.byte_room, c.text.size());
-    return better(c) || better(with_fitting_choices(c));
+    return better(c) || better(with_fitting_choices(c)) || better(with_less_budget(c));
+  }
+
+  // An instruction less may need one less of the budget to stop at the same place.
+  static Case with_less_budget(Case c) {
+    if (c.job.budget > 0) --c.job.budget;
+    return c;
   }
 
   // Drops the choices that name threads which aren't runnable when their turn comes.
@@ -153,6 +159,7 @@ private:
     for (std::size_t at = best_.job.table.size(); at-- > 0;) {
       if (at >= best_.job.table.size()) continue;
       Case c = best_;
+      shorten_body_of(c.job.table, at);
       c.job.table.erase(c.job.table.begin() + static_cast<std::ptrdiff_t>(at));
       if (best_.text == lines_of(best_.job.table)) c.text = lines_of(c.job.table);
       smaller = better(c) || smaller;
@@ -165,6 +172,18 @@ private:
         smaller = better(c) || smaller;
       }
     return smaller;
+  }
+
+  // Where the frame is an instruction by the lengths of the bodies, takes 1 off the length of its own.
+  static void shorten_body_of(std::vector<uint64_t> &table, std::size_t at) {
+    const Frame header = independent::frame_of(table[0]);
+    const std::size_t bodies = 1 + header.d + header.b;
+    std::size_t end = 1 + bodies;
+    for (std::size_t i = 1; i <= bodies && i < table.size() && end <= at; ++i) {
+      const uint32_t length = independent::frame_of(table[i]).imm;
+      end += length;
+      if (at < end && length > 0) --table[i];
+    }
   }
 
   Case best_;

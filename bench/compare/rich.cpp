@@ -163,7 +163,8 @@ Made rich(Random &r) {
 Made at_the_limits(Random &r) {
   Plan plan(16, 32, 16, 256);
   plan.bodies[0] = main_code(r, plan, r.between(100, 150), r.between(0, 20));
-  for (uint32_t k = 0; k < 16; ++k) plan.bodies[1 + k] = thread_code(r, plan, r.between(20, 40));
+  const bool lasting = r.chance(300); // all choices are taken then, mostly
+  for (uint32_t k = 0; k < 16; ++k) plan.bodies[1 + k] = lasting ? pacer_code(r, plan) : thread_code(r, plan, r.between(20, 40));
   for (uint32_t u = 0; u < 15; ++u) plan.bodies[17 + u] = update_code(r, plan, r.between(0, 10));
   plan.bodies[32] = update_code(r, plan, 1024 - static_cast<uint32_t>(plan.instructions()));
   Made made{case_of(plan.table()), {}};
