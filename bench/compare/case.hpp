@@ -15,7 +15,7 @@ using independent::Verdict;
 
 struct Case {
   independent::Job job;
-  std::string text; // the image as bytes, for the reader and the program
+  std::string text;       // the image as bytes, for the reader and the program
   bool text_only = false; // only read is called
   std::size_t cell_room = 256;
   std::size_t word_room = 1058;

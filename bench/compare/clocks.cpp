@@ -38,7 +38,8 @@ std::vector<Dispatch> dispatches(Random &r, const std::vector<Waiter> &waiters) 
       if (!last) time += waiters[k].waits[i];
     }
   }
-  std::sort(all.begin(), all.end(), [](const Dispatch &x, const Dispatch &y) { return x.time != y.time ? x.time < y.time : x.order < y.order; });
+  std::sort(all.begin(), all.end(),
+            [](const Dispatch &x, const Dispatch &y) { return x.time != y.time ? x.time < y.time : x.order < y.order; });
   return all;
 }
 
@@ -128,7 +129,8 @@ Made late_scene(Random &r) {
 Made after_clock_scene(Random &r) {
   const uint32_t now = r.between(1, 1000);
   Plan plan(1, 1, 1, 8);
-  static const std::vector<Frame> barred = {start(), notify(0), notify_after(0, 1), notify_after(0, 1), notify_after(0, 1), request(0), suspend(0), resume(0)};
+  static const std::vector<Frame> barred = {start(),    notify(0),  notify_after(0, 1), notify_after(0, 1), notify_after(0, 1),
+                                            request(0), suspend(0), resume(0)};
   plan.bodies[0] = {set(0, now), set(1, r.chance(700) ? last_time : r.below(5)), start(), set(2, 7), r.pick(barred), set(3, 7)};
   plan.bodies[1] = {wait_time(0)};
   Case c = case_of(plan.table());
@@ -137,8 +139,8 @@ Made after_clock_scene(Random &r) {
   return {c, {{}, {}, {}, Answer{c.job.budget == 5 ? 22u : 18u, 0, 4, now, 5, 2, 0, 0}}};
 }
 
-// All 16 threads wait for a time and all 32 events pend for one: 48 due times. No more can be asked for, as every event and every thread has one;
-// number 23 can't be reached. Replacing one adds none, and one that is too late is 17.
+// All 16 threads wait for a time and all 32 events pend for one: 48 due times. No more can be asked for, as every event and every
+// thread has one; number 23 can't be reached. Replacing one adds none, and one that is too late is 17.
 Made full_scene(Random &r) {
   Plan plan(16, 32, 1, 64);
   const bool late = r.chance(500);

@@ -1,5 +1,5 @@
-// Does the comparison notice? compare_faults [SEED]: each wrong rule is planted in the independent simulator, one at a time, and jobs are compared
-// until a difference shows. A rule counts as passed if one does.
+// Does the comparison notice? compare_faults [SEED]: each wrong rule is planted in the independent simulator, one at a time, and jobs are
+// compared until a difference shows, which is then reduced. A rule counts as passed if one does.
 #include "differ.hpp"
 #include "drawn.hpp"
 #include "reduce.hpp"
@@ -34,9 +34,10 @@ bool found(const Planted &planted, uint64_t seed) {
     const compare::Drawn drawn = compare::drawn_job(seed, i);
     const auto difference = compare::difference(drawn.made.job, drawn.made.expected);
     if (!difference) continue;
-    const compare::Case small = compare::reduced(drawn.made.job, [](const compare::Case &c) { return compare::difference(c).has_value(); }, 2000);
-    std::cout << "found after " << i + 1 << " jobs: " << planted.words << " (" << drawn.kind->name << ", " << difference->call << ": " << difference->what
-              << "; reduced to " << small.job.table.size() << " frames, " << small.job.choices.size() << " choices)\n";
+    const compare::Case small = compare::reduced(
+        drawn.made.job, [](const compare::Case &c) { return compare::difference(c).has_value(); }, 2000);
+    std::cout << "found after " << i + 1 << " jobs: " << planted.words << " (" << drawn.kind->name << ", " << difference->call << ": "
+              << difference->what << "; reduced to " << small.job.table.size() << " frames, " << small.job.choices.size() << " choices)\n";
     return true;
   }
   std::cout << "FAILED: not found: " << planted.words << '\n';

@@ -1,5 +1,6 @@
-// The run program beside the independent simulator: compare_program [PROGRAM [JOBS [SEED]]]. What it prints is compared byte by byte; nothing may stand
-// on standard error, and it may not be ended by a signal. Then the wrong rules that show in job files only are planted, one at a time.
+// The run program beside the independent simulator: compare_program [PROGRAM [JOBS [SEED]]]. What it prints is compared byte by byte;
+// nothing may stand on standard error, and it may not be ended by a signal. Then the wrong rules that show in job files only are planted,
+// one at a time.
 #include "job_files.hpp"
 #include "program_runs.hpp"
 #include "reduce.hpp"
@@ -59,7 +60,8 @@ void show(const JobFile &file, const std::string &program, const std::string &fo
   std::cout << "DIFFERENCE: job file " << path << ":\n"
             << small << "end of job file\nthe program prints:\n"
             << printed.output << "the simulator prints:\n"
-            << independent::answer_job(small) << "the program's standard error: '" << printed.errors << "', status " << printed.status << '\n';
+            << independent::answer_job(small) << "the program's standard error: '" << printed.errors << "', status " << printed.status
+            << '\n';
 }
 
 void compare_group(Group &group, const std::string &program, const std::string &folder) {
@@ -69,7 +71,8 @@ void compare_group(Group &group, const std::string &program, const std::string &
   std::size_t differences = 0;
   for (std::size_t i = 0; i < group.files.size(); ++i)
     if (differs(group.files[i], group.printed[i]) && ++differences == 1) show(group.files[i], program, folder);
-  check(differences == 0, std::string(group.name) + ": " + std::to_string(group.files.size()) + " job files, " + std::to_string(differences) + " differences");
+  check(differences == 0, std::string(group.name) + ": " + std::to_string(group.files.size()) + " job files, " +
+                              std::to_string(differences) + " differences");
 }
 
 #define PLANTED_ROW(name, words) {independent::Rule::name, words},
@@ -87,7 +90,8 @@ bool noticed(const std::vector<Group> &groups) {
 
 int main(int argc, char **argv) try {
   const std::filesystem::path here = std::filesystem::absolute(argv[0]).parent_path();
-  const std::string program = std::filesystem::absolute(argc > 1 ? std::filesystem::path(argv[1]) : here / "../bin/ivlrun").lexically_normal().string();
+  const std::string program =
+      std::filesystem::absolute(argc > 1 ? std::filesystem::path(argv[1]) : here / "../bin/ivlrun").lexically_normal().string();
   const std::size_t jobs = argc > 2 ? std::stoull(argv[2]) : 1000;
   const uint64_t seed = argc > 3 ? std::stoull(argv[3]) : 1;
   const std::string folder = (here / "program_jobs").string();

@@ -29,7 +29,7 @@ void damage_once(Random &r, std::string &text) {
 uint64_t damaged(Random &r, uint64_t frame) {
   static const std::vector<int> shifts = {56, 48, 40, 32, 24, 16, 8, 0};
   const int shift = r.pick(shifts);
-  if (r.chance(300)) return frame ^ uint64_t{1} << r.below(64);
+  if (r.chance(300)) return frame ^ uint64_t { 1 } << r.below(64);
   const uint64_t byte = r.chance(300) ? r.below(256) : r.below(r.chance(500) ? 4 : 105);
   return (frame & ~(uint64_t{0xff} << shift)) | byte << shift;
 }

@@ -23,19 +23,17 @@ template <typename Items> auto lent(const Items &items) {
   return buffer;
 }
 
-// The buffer holds the new items, then what it held, and its guards stand.
-template <typename T, typename Items> bool holds(const Guarded<T> &buffer, const Items &items) {
-  if (items.size() > buffer.size() || !buffer.guards_stand()) return false;
-  for (std::size_t i = 0; i < items.size(); ++i)
-    if (buffer[i] != static_cast<T>(items[i])) return false;
-  for (std::size_t i = items.size(); i < buffer.size(); ++i)
-    if (buffer[i] != held) return false;
-  return true;
-}
-
-// A buffer that is only read holds what it held.
-template <typename T, typename Items> bool unchanged(const Guarded<T> &buffer, const Items &items) {
-  return buffer.size() == items.size() && holds(buffer, items);
+// Where the buffer doesn't hold the new items and then what it held before, or a guard is touched.
+template <typename T, typename Items>
+Found content_differs(const char *call, const char *name, const Guarded<T> &buffer, const Items &items) {
+  if (!buffer.guards_stand()) return Difference{call, std::string("beside the ") + name + " something is touched"};
+  for (std::size_t i = 0; i < buffer.size(); ++i) {
+    const T due = i < items.size() ? static_cast<T>(items[i]) : static_cast<T>(held);
+    if (buffer[i] == due) continue;
+    return Difference{call, std::string(name) + " hold " + std::to_string(buffer[i]) + " at " + std::to_string(i) + ", not " +
+                                std::to_string(due)};
+  }
+  return std::nullopt;
 }
 
 std::string says(const std::string &field, uint32_t library, const std::string &who, uint32_t other) {
@@ -66,8 +64,7 @@ Found judge_differs(const Case &c, const Expected &expected) {
   auto table = lent(c.job.table);
   const fishdavit_verdict library = fishdavit_judge(table.data(), table.size());
   if (const Found found = verdict("judge", library, independent::judge(c.job.table), expected.judge)) return found;
-  if (!unchanged(table, c.job.table)) return Difference{"judge", "the table is touched"};
-  return std::nullopt;
+  return content_differs("judge", "frames", table, c.job.table);
 }
 
 Found read_differs(const Case &c, const Expected &expected, Reached *reached) {
@@ -77,9 +74,8 @@ Found read_differs(const Case &c, const Expected &expected, Reached *reached) {
   if (reached != nullptr && library.number < 24) ++reached->read[library.number];
   const independent::Read simulator = independent::read(c.text, c.word_room);
   if (const Found found = verdict("read", library, simulator.verdict, expected.read)) return found;
-  if (!holds(words, simulator.words)) return Difference{"read", "the table holds other words"};
-  if (!unchanged(bytes, c.text)) return Difference{"read", "the bytes are touched"};
-  return std::nullopt;
+  if (const Found found = content_differs("read", "words", words, simulator.words)) return found;
+  return content_differs("read", "bytes", bytes, c.text);
 }
 
 Found write_differs(const Case &c, const Expected &expected) {
@@ -88,9 +84,8 @@ Found write_differs(const Case &c, const Expected &expected) {
   const fishdavit_verdict library = fishdavit_write(table.data(), table.size(), bytes.data(), bytes.size());
   const independent::Written simulator = independent::write(c.job.table, c.byte_room);
   if (const Found found = verdict("write", library, simulator.verdict, expected.write)) return found;
-  if (!holds(bytes, simulator.bytes)) return Difference{"write", "the buffer holds other bytes"};
-  if (!unchanged(table, c.job.table)) return Difference{"write", "the table is touched"};
-  return std::nullopt;
+  if (const Found found = content_differs("write", "bytes", bytes, simulator.bytes)) return found;
+  return content_differs("write", "frames", table, c.job.table);
 }
 
 Found run_differs(const Case &c, const Expected &expected, Reached *reached) {
@@ -99,19 +94,18 @@ Found run_differs(const Case &c, const Expected &expected, Reached *reached) {
   auto choices = lent(job.choices);
   auto inputs = lent(job.inputs);
   Guarded<uint32_t> cells(c.cell_room, held);
-  const fishdavit_answer library = fishdavit_run(table.data(), table.size(), choices.data(), choices.size(), inputs.data(), inputs.size(), job.budget,
-                                                 cells.data(), cells.size());
+  const fishdavit_answer library = fishdavit_run(table.data(), table.size(), choices.data(), choices.size(), inputs.data(), inputs.size(),
+                                                 job.budget, cells.data(), cells.size());
   if (reached != nullptr && library.number < 24) ++reached->run[library.number];
   const independent::Outcome simulator = independent::run(job, c.cell_room);
   if (const Found found = answers_differ(library, simulator.answer, "the simulator")) return found;
   if (expected.run) {
     if (const Found found = answers_differ(library, *expected.run, "its maker")) return found;
   }
-  if (!holds(cells, simulator.cells)) return Difference{"run", "the buffer holds other cells"};
-  if (!unchanged(table, job.table)) return Difference{"run", "the table is touched"};
-  if (!unchanged(choices, job.choices)) return Difference{"run", "the choices are touched"};
-  if (!unchanged(inputs, job.inputs)) return Difference{"run", "the inputs are touched"};
-  return std::nullopt;
+  if (const Found found = content_differs("run", "cells", cells, simulator.cells)) return found;
+  if (const Found found = content_differs("run", "frames", table, job.table)) return found;
+  if (const Found found = content_differs("run", "choices", choices, job.choices)) return found;
+  return content_differs("run", "inputs", inputs, job.inputs);
 }
 
 } // namespace

@@ -20,8 +20,8 @@ struct Reached {
   std::array<uint64_t, 24> read{}, run{};
 };
 
-// The first difference between the two, or between them and what is known beforehand. Every field of every answer and every element of every
-// lent buffer is looked at, those that are only read and the guards around them included.
+// The first difference between the two, or between them and what is known beforehand. Every field of every answer and every element of
+// every lent buffer is looked at, those that are only read and the guards around them included.
 std::optional<Difference> difference(const Case &c, const Expected &expected = {}, Reached *reached = nullptr);
 
 } // namespace compare

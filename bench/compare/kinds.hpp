@@ -42,10 +42,10 @@ Made bad_choice_scene(Random &r); // 21
 Made budget_scene(Random &r);     // 22
 
 // clocks.cpp: runs in which time moves, with every due time known.
-Made clock_scene(Random &r);     // 0 or 10
-Made late_scene(Random &r);      // 17, or just not
+Made clock_scene(Random &r);       // 0 or 10
+Made late_scene(Random &r);        // 17, or just not
 Made after_clock_scene(Random &r); // 18, at a time above 0
-Made full_scene(Random &r);      // 48 due times stand: no 23, but 17
+Made full_scene(Random &r);        // 48 due times stand: no 23, but 17
 
 // faults.cpp: a well-formed image with one fault, or room that is too short.
 Made line_fault(Random &r);   // 1

@@ -6,8 +6,8 @@ namespace compare {
 
 namespace {
 
-const std::vector<uint32_t> three_cells = {0x10, 0x11, 0x12, 0x13, 0x14, 0x18, 0x19, 0x1a, 0x1b, 0x1c,
-                                           0x20, 0x21, 0x28, 0x29, 0x2a, 0x2b, 0x2c, 0x2d};
+const std::vector<uint32_t> three_cells = {0x10, 0x11, 0x12, 0x13, 0x14, 0x18, 0x19, 0x1a, 0x1b,
+                                           0x1c, 0x20, 0x21, 0x28, 0x29, 0x2a, 0x2b, 0x2c, 0x2d};
 const std::vector<uint32_t> two_cells = {0x02, 0x22, 0x2e};
 
 bool among(const std::vector<uint32_t> &ops, uint32_t op) { return std::find(ops.begin(), ops.end(), op) != ops.end(); }
@@ -58,7 +58,7 @@ Frame any_plain(Random &r, const Plan &plan) {
 
 Frame any_instruction(Random &r, const Plan &plan, BodyKind kind, uint32_t length) {
   const auto cell = [&] { return r.below(plan.cells); };
-  std::vector<Frame> may = {any_plain(r, plan), any_region(r, plan), go(r.between(0, length)), go_if(cell(), r.between(0, length)),
+  std::vector<Frame> may = {any_plain(r, plan),  any_region(r, plan), go(r.between(0, length)), go_if(cell(), r.between(0, length)),
                             assert_that(cell()), assume_that(cell())};
   if (plan.events > 0) may.push_back(notify_after(r.below(plan.events), cell()));
   if (plan.events > 0 && kind != BodyKind::update) may.push_back(notify(r.below(plan.events)));
@@ -94,7 +94,8 @@ bool spoil_field(Random &r, const Plan &plan, uint32_t length, Frame &f) {
   };
   const bool three = among(three_cells, f.op), two = among(two_cells, f.op), in_region = f.op == 0x30 || f.op == 0x31;
   if (f.op == 0x01 || f.op == 0x03 || two || three || in_region) past(&Frame::d, plan.cells);
-  if (two || three || in_region || f.op == 0x41 || f.op == 0x50 || f.op == 0x51 || f.op == 0x61 || f.op == 0x63) past(&Frame::a, plan.cells);
+  if (two || three || in_region || f.op == 0x41 || f.op == 0x50 || f.op == 0x51 || f.op == 0x61 || f.op == 0x63)
+    past(&Frame::a, plan.cells);
   if (three) past(&Frame::b, plan.cells);
   if (in_region) {
     spoilt.insert(spoilt.end(), 3, f);
@@ -116,9 +117,10 @@ bool spoil_field(Random &r, const Plan &plan, uint32_t length, Frame &f) {
 }
 
 uint32_t edge_value(Random &r) {
-  static const std::vector<uint32_t> edges = {0,          1,          2,          3,      7,      0xffffffff, 0xfffffffe, 0xfffffff9, 0x80000000,
-                                              0x80000001, 0x7fffffff, 0x7ffffffe, 46340,  46341,  0xffff4afc, 0xffff4afb, 65535,      65536,
-                                              0xffff0000, 0x55555555, 4,          5,      10,     100,        255,        256};
+  static const std::vector<uint32_t> edges = {0,          1,          2,          3,          7,          0xffffffff, 0xfffffffe,
+                                              0xfffffff9, 0x80000000, 0x80000001, 0x7fffffff, 0x7ffffffe, 46340,      46341,
+                                              0xffff4afc, 0xffff4afb, 65535,      65536,      0xffff0000, 0x55555555, 4,
+                                              5,          10,         100,        255,        256};
   return r.chance(150) ? static_cast<uint32_t>(r.next()) : r.pick(edges);
 }
 

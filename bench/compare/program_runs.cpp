@@ -26,7 +26,8 @@ std::vector<Printed> run_program(const std::string &program, const std::vector<s
                                     << "  echo $? >${job%.job}.status\n"
                                     << "done\n";
   const std::string command = "cd '" + folder + "' && timeout 300 sh all.sh 2>shell.err";
-  if (std::system(command.c_str()) != 0) throw std::runtime_error("the runs of " + program + " in " + folder + " did not come to their end");
+  if (std::system(command.c_str()) != 0)
+    throw std::runtime_error("the runs of " + program + " in " + folder + " did not come to their end");
   std::vector<Printed> printed;
   for (std::size_t i = 0; i < inputs.size(); ++i) {
     const std::string path = folder + '/' + std::to_string(i);

@@ -1,4 +1,5 @@
-// Random numbers that are the same on every machine for the same seed (splitmix64).
+// Random numbers that are the same on every machine for the same seed (splitmix64). The jobs drawn with them are the same for the same
+// compiler: the order in which it works out the arguments of a call is its own.
 #pragma once
 
 #include <cstddef>

@@ -1,4 +1,5 @@
-// Designs with much for the kernel to do: threads that wait, notify, suspend and resume each other in loops, over cells that hold small delays.
+// Designs with much for the kernel to do: threads that wait, notify, suspend and resume each other in loops, over cells that hold small
+// delays.
 #include "kinds.hpp"
 
 #include "../independent/limits.hpp"
@@ -11,7 +12,9 @@ namespace {
 
 // The lower half of the cells holds delays; results go to the upper half, mostly.
 uint32_t delay_cell(Random &r, const Plan &plan) { return r.below(plan.cells / 2 + 1); }
-uint32_t result_cell(Random &r, const Plan &plan) { return r.chance(970) ? r.between(plan.cells / 2, plan.cells - 1) : r.below(plan.cells); }
+uint32_t result_cell(Random &r, const Plan &plan) {
+  return r.chance(970) ? r.between(plan.cells / 2, plan.cells - 1) : r.below(plan.cells);
+}
 uint32_t small_delay(Random &r) { return r.chance(8) ? edge_value(r) : r.chance(300) ? 0 : r.between(1, 6); }
 
 Frame quiet_plain(Random &r, const Plan &plan) {
@@ -180,9 +183,7 @@ Made at_the_limits(Random &r) {
 Made over_the_limits(Random &r) {
   Plan plan(r.chance(500) ? 16 : r.below(17), r.chance(500) ? 32 : r.below(33), r.chance(500) ? 16 : r.below(17), r.between(1, 256));
   std::vector<uint64_t> table = plan.table();
-  const auto put = [&table](int shift, uint64_t width, uint64_t value) {
-    table[0] = (table[0] & ~(width << shift)) | value << shift;
-  };
+  const auto put = [&table](int shift, uint64_t width, uint64_t value) { table[0] = (table[0] & ~(width << shift)) | value << shift; };
   const uint32_t what = r.below(6);
   if (what == 0) put(48, 0xff, r.chance(500) ? 17 : r.between(17, 255));
   if (what == 1) put(40, 0xff, r.chance(500) ? 33 : r.between(33, 255));

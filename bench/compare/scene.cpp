@@ -11,7 +11,8 @@ constexpr uint32_t first_noise_cell = 8;
 
 } // namespace
 
-Scene::Scene(Random &r) : plan(r.chance(100) ? 16 : r.below(6), r.chance(100) ? 32 : r.below(5), r.chance(100) ? 16 : r.below(5), r.between(16, 256)) {
+Scene::Scene(Random &r)
+    : plan(r.chance(100) ? 16 : r.below(6), r.chance(100) ? 32 : r.below(5), r.chance(100) ? 16 : r.below(5), r.between(16, 256)) {
   for (uint32_t k = 0; k < plan.threads; ++k) order.push_back(static_cast<uint8_t>(k));
   r.shuffle(order);
   Code &main = plan.bodies[0];

@@ -24,14 +24,14 @@ class Scene {
 public:
   explicit Scene(Random &r);
 
-  // Puts the code at a drawn place of a body of that kind, among the noise, so that the run comes by there. False where the scene has no such body.
-  // The last instruction of the code stops the run, and `stop_body`, `stop_place` name it.
+  // Puts the code at a drawn place of a body of that kind, among the noise, so that the run comes by there. False where the scene has no
+  // such body. The last instruction of the code stops the run, and `stop_body`, `stop_place` name it.
   bool put(Random &r, Where where, const Code &code);
 
   // Drops main's start and all after it.
   void without_start();
 
-  // The whole run in order; `accepted` cuts the threads' order after so many dispatches.
+  // The whole run in order, or up to the end of so many dispatches.
   std::vector<Moment> moments(std::size_t dispatches) const;
   std::vector<Moment> moments() const { return moments(order.size()); }
 

@@ -133,7 +133,8 @@ Made bad_choice_scene(Random &r) {
     const std::size_t n = scene.moments(kept).size();
     const Moment after = scene.after(kept);
     Case c = scene.to_case(r, after.inputs);
-    c.job.choices[kept] = static_cast<uint8_t>(kept > 0 && r.chance(500) ? c.job.choices[r.below(kept)] : r.between(scene.plan.threads, 255));
+    c.job.choices[kept] =
+        static_cast<uint8_t>(kept > 0 && r.chance(500) ? c.job.choices[r.below(kept)] : r.between(scene.plan.threads, 255));
     c.job.budget = static_cast<uint32_t>(n) + r.below(2) * r.below(100);
     return {c, {{}, {}, {}, ended(21, after, n)}};
   }

@@ -72,8 +72,8 @@ void damaged_images(const Take &take) {
 }
 
 void arithmetic_pairs(const Take &take) {
-  const std::vector<uint32_t> values = {0,     1,     2,     7,          0xffffffff, 0xfffffffe, 0xfffffff9, 0x80000000, 0x80000001, 0x7fffffff, 0x7ffffffe,
-                                        46340, 46341, 65536, 0xffff4afc, 0xffff4afb, 0xffff0000, 0x12345678};
+  const std::vector<uint32_t> values = {0,          1,          2,     7,     0xffffffff, 0xfffffffe, 0xfffffff9, 0x80000000, 0x80000001,
+                                        0x7fffffff, 0x7ffffffe, 46340, 46341, 65536,      0xffff4afc, 0xffff4afb, 0xffff0000, 0x12345678};
   for (uint32_t op = 0x10; op <= 0x2d; ++op) {
     const bool known = op <= 0x14 || (op >= 0x18 && op <= 0x1c) || op == 0x20 || op == 0x21 || op >= 0x28;
     if (!known) continue;
@@ -101,6 +101,15 @@ void both_sides(const Take &take) {
     c.job.choices = {0, 0};
     c.job.budget = 100;
     take(answered(c, limit == 5 ? Answer{0, 0xff, 0, 5, 3, 2, 0, 0} : Answer{10, 0xff, 0, 0, 3, 1, 0, 1}));
+  }
+  for (uint32_t wait : {0xfffffffeu, 0xffffffffu}) { // after a wait for 1
+    Plan plan(1, 0, 0, 2);
+    plan.bodies[0] = {set(0, 1), set(1, wait), start()};
+    plan.bodies[1] = {wait_time(0), wait_time(1)};
+    Case c = case_of(plan.table());
+    c.job.choices = {0, 0, 0};
+    c.job.budget = 100;
+    take(answered(c, wait == 0xfffffffe ? Answer{0, 0xff, 0, 0xffffffff, 5, 3, 0, 0} : Answer{17, 1, 1, 1, 4, 2, 0, 1}));
   }
   take(counts(16, 1, 0, 0, 0));
   take(counts(17, 1, 0, 2, 0));

@@ -9,7 +9,7 @@ namespace compare {
 
 using Take = std::function<void(const Made &)>;
 
-// A small image cut at every position, with every bit turned, with every byte at each place replaced, with each line dropped and doubled.
+// A small image cut at every position; and with every byte at each place, one byte or line dropped, one doubled.
 void cut_images(const Take &take);
 void damaged_images(const Take &take);
 

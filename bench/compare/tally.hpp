@@ -17,8 +17,8 @@ public:
   // Compares one job and reports a difference, reduced to a small job.
   void take(const std::string &kind, const std::string &label, const Made &made);
 
-  // Prints the table and 'N passed, M failed'. One check for each kind and, where enough jobs ran, one for each number: 0 to 22 must have come,
-  // 23 can't, as 16 threads and 32 events have no more than 48 due times. The exit status.
+  // Prints the table and 'N passed, M failed'. One check for each kind and, where enough jobs ran, one for each number: 0 to 22 must have
+  // come, 23 can't, as 16 threads and 32 events have no more than 48 due times. The exit status.
   int report(bool enough_jobs) const;
 
 private:

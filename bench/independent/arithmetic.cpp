@@ -12,20 +12,20 @@ constexpr int64_t greatest = 2147483647;
 // Two's complement, in a type with room for every sum, difference, product and quotient of two cells.
 int64_t as_signed(uint32_t cell) { return cell <= greatest ? int64_t{cell} : int64_t{cell} - 4294967296; }
 
-// 15: a signed result outside its range.
+// Number 15, on the table of numbers: the true result has no place among the signed cells.
 uint32_t in_range(int64_t result) {
   if (result < least && !wrong(Rule::only_the_top_is_15)) throw Stop{15};
   if (result > greatest) throw Stop{15};
   return static_cast<uint32_t>(result);
 }
 
-// 14: a zero divisor.
+// Number 14: nothing can be divided by 0, signed or not.
 template <typename Number> Number divisor(Number b) {
   if (b == 0) throw Stop{wrong(Rule::zero_divisor_is_15) ? 15u : 14u};
   return b;
 }
 
-// Quotients go toward zero, as those of C++ do.
+// The paragraph under the instructions has quotients cut, not rounded down. C++ cuts as well.
 uint32_t signed_quotient(int64_t a, int64_t b) {
   const int64_t quotient = a / divisor(b);
   if (wrong(Rule::quotient_goes_down) && a % b != 0 && (a < 0) != (b < 0)) return in_range(quotient - 1);
@@ -33,7 +33,7 @@ uint32_t signed_quotient(int64_t a, int64_t b) {
   return in_range(quotient);
 }
 
-// A remainder has the sign of the dividend, as those of C++ have. -2^31 by -1 is 15 here too.
+// The same paragraph lets the remainder follow the dividend's sign, as C++ does. -2^31 by -1 stops here as the quotient does.
 uint32_t signed_remainder(int64_t a, int64_t b) {
   const int64_t quotient = a / divisor(b);
   if (!wrong(Rule::least_by_minus_one_leaves_0)) in_range(quotient);

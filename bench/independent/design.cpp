@@ -7,7 +7,7 @@ namespace independent {
 
 bool Inspector::due() const { return !header_taken_ || design_.bodies.size() < bodies_due_ || filling_ < bodies_due_; }
 
-// Order: a header; one body frame each for main, the threads and the updates; then their instructions in that order.
+// An image begins with its header, goes on with the frames that give the bodies' lengths, and ends with the bodies' code.
 uint32_t Inspector::take(uint64_t number) {
   const Frame f = frame_of(number);
   if (!header_taken_) return take_header(f);
@@ -15,7 +15,7 @@ uint32_t Inspector::take(uint64_t number) {
   return take_instruction(f);
 }
 
-// 2: the first frame isn't a0, or a count is outside its range.
+// Number 2, for whatever is wrong with a header.
 uint32_t Inspector::take_header(const Frame &f) {
   const uint32_t least_cells = wrong(Rule::no_cells_pass) ? 0 : 1;
   const uint32_t threads_allowed = wrong(Rule::seventeen_threads_pass) ? 17 : most_threads;
@@ -27,7 +27,7 @@ uint32_t Inspector::take_header(const Frame &f) {
   return 0;
 }
 
-// 3: it isn't a1, has d, a, b not zero, or the lengths so far pass 1,024.
+// Number 3, for whatever is wrong with a body frame. The lengths count as they come: the frame that takes them past the limit is at fault.
 uint32_t Inspector::take_body(const Frame &f) {
   if (f.op != 0xa1) return 3;
   if ((f.d | f.a | f.b) != 0) return wrong(Rule::body_fields_are_5) ? 5 : 3;
@@ -39,7 +39,7 @@ uint32_t Inspector::take_body(const Frame &f) {
   return 0;
 }
 
-// 4: the op is unknown, or not allowed in that body. Then 5: an unused field isn't zero, or a used one is out of range.
+// Number 4 says that this op has no business here, number 5 that its fields are wrong; 4 comes first.
 uint32_t Inspector::take_instruction(const Frame &f) {
   Body &body = design_.bodies[filling_];
   const Op *const op = op_of(f.op);
@@ -73,7 +73,7 @@ bool Inspector::fits(Use use, uint32_t field, const Frame &f, const Body &body) 
   return false;
 }
 
-// Bodies are numbered main 0, then threads, then updates.
+// By the numbering of bodies: main is the first, updates are the last.
 BodyKind Inspector::kind_of(std::size_t body) const {
   if (body == 0) return BodyKind::main;
   return body <= design_.threads ? BodyKind::thread : BodyKind::update;

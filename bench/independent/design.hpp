@@ -42,8 +42,8 @@ private:
 
   bool header_taken_ = false;
   std::size_t bodies_due_ = 0;
-  uint64_t lengths_ = 0;      // of the bodies so far, together
-  std::size_t filling_ = 0;   // the body that the next instruction belongs to
+  uint64_t lengths_ = 0;    // of the bodies so far, together
+  std::size_t filling_ = 0; // the body that the next instruction belongs to
   Design design_;
 };
 

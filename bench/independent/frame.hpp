@@ -1,4 +1,4 @@
-// A frame is eight bytes: op, d, a, b and imm, which has four of them, the high byte first. In a table it is one number, op in the top byte.
+// Frames and the 64-bit numbers that stand for them in tables: from the top byte down op, d, a, b, and 32 bits of imm.
 #pragma once
 
 #include <cstdint>

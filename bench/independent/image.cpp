@@ -20,7 +20,7 @@ std::optional<uint64_t> line_at(const std::string &bytes, std::size_t at) {
 
 } // namespace
 
-// The first faulty frame decides. Where all are well, 6 if frames are still due and 7 if something follows.
+// Faults are met frame by frame, so the one that comes first is told. Only a table without any can be too short (6) or too long (7).
 Verdict judge(const std::vector<uint64_t> &table, Design *design) {
   Inspector inspector;
   uint32_t taken = 0;
@@ -34,7 +34,7 @@ Verdict judge(const std::vector<uint64_t> &table, Design *design) {
   return {0, taken};
 }
 
-// 8 first, then the first faulty line; in one line 1 comes before the rest. Bytes past the last due frame are 7 and aren't looked at.
+// The paragraph on reading: room before all else; then line by line, its form before its meaning. What follows the last line is 7 unseen.
 Read read(const std::string &bytes, std::size_t room_in_words) {
   if (room_in_words < most_lines && !wrong(Rule::room_after_faults)) return {{8, 0}, {}};
   Inspector inspector;
@@ -58,7 +58,7 @@ Read read(const std::string &bytes, std::size_t room_in_words) {
   return {{0, count}, words};
 }
 
-// 2 to 7, then 8: under 17 bytes a frame.
+// The same paragraph on writing: here the room is looked at last.
 Written write(const std::vector<uint64_t> &table, std::size_t room_in_bytes) {
   const std::size_t needed = line_bytes * table.size();
   if (wrong(Rule::write_room_first) && room_in_bytes < needed) return {{8, 0}, {}};

@@ -14,7 +14,7 @@ struct Verdict {
   uint32_t number, line;
 };
 
-// 2 to 7, else 0 with the count of frames. An accepted table's design stands in `design`, if it is wanted.
+// A fault and its line, or 0 and how many frames there are. An accepted table's design stands in `design`, if it is wanted.
 Verdict judge(const std::vector<uint64_t> &table, Design *design = nullptr);
 
 struct Read {

@@ -49,11 +49,12 @@ template <typename Number> std::optional<std::vector<Number>> numbers(Lines &lin
   return values;
 }
 
-// Number, body, place or line, time, instructions, choices, inputs, threads not ended.
+// The answer's eight numbers on one line and, where the run wasn't refused, a line for each cell.
 std::string printed(const Outcome &outcome) {
   const Answer &a = outcome.answer;
-  const std::string number = wrong(Rule::number_in_decimal) && a.number < 100 ? std::to_string(a.number / 10) + std::to_string(a.number % 10)
-                                                                              : hex_digits(a.number, 2);
+  const std::string number = wrong(Rule::number_in_decimal) && a.number < 100
+                                 ? std::to_string(a.number / 10) + std::to_string(a.number % 10)
+                                 : hex_digits(a.number, 2);
   std::string text = number + ' ' + hex_digits(a.body, 2) + ' ' + hex_digits(a.place, 4) + ' ' + hex_digits(a.time, 8) + ' ' +
                      hex_digits(a.instructions, 8) + ' ' + hex_digits(a.choices, 4) + ' ' + hex_digits(a.inputs, 4) + ' ' +
                      hex_digits(a.threads, 4) + '\n';
@@ -65,7 +66,8 @@ std::string refused(uint32_t number, uint32_t line) { return printed({{number, 0
 
 } // namespace
 
-// Line 0, the budget; line 1, the choices; line 2, the inputs; then the image. The first bad job line is 9, before the image is looked at.
+// The section on the program: three job lines, then an image. The first job line that is missing or wrong decides, whatever the image
+// holds.
 std::string answer_job(const std::string &input) {
   Lines lines(input);
   const auto budget = numbers<uint32_t>(lines, 8, 1);

@@ -25,7 +25,7 @@ bool waits_for(const Thread &t, uint32_t event) {
 
 } // namespace
 
-// A thread is runnable when it hasn't ended, waits for nothing and isn't suspended.
+// The kernel's first rule: three things keep a thread from running, namely its end, a wait and a suspension.
 bool Kernel::is_runnable(uint32_t thread) const {
   const Thread &t = threads[thread];
   return !t.ended && is<Nothing>(t.waiting) && !t.suspended;
@@ -53,7 +53,7 @@ void Kernel::wait_for_event(uint32_t thread, uint32_t event) {
   threads[thread].waiting = AnEvent{event};
 }
 
-// A wait for time 0 is freed in the next delta phase, otherwise at now + value.
+// The rule on waits for a time: 0 lasts until the coming delta phase, anything else has a due time counted from now.
 void Kernel::wait_for_time(uint32_t thread, uint32_t value) {
   if (value == 0) {
     if (wrong(Rule::wait_0_is_no_wait)) return;
@@ -66,13 +66,14 @@ void Kernel::wait_for_time(uint32_t thread, uint32_t value) {
   threads[thread].waiting = DueTime{due};
 }
 
-// Notify at once drops what pends and triggers the event.
+// The rule on events, its immediate case: the pending notification is gone, and those who wait now are freed now.
 void Kernel::notify_at_once(uint32_t event) {
   if (!wrong(Rule::kept_past_notify_at_once)) events[event].pending = Nothing{};
   trigger(event);
 }
 
-// Delay 0 pends for the delta phase, else now + delay. The earlier one stays; delta is earlier than any time.
+// The rule on events, its delayed case: of two notifications the sooner one counts, and none is sooner than the delta phase, which delay 0
+// asks for.
 void Kernel::notify_after(uint32_t event, uint32_t delay) {
   Pending &pending = events[event].pending;
   const std::optional<uint32_t> standing = due_time(pending);
@@ -86,11 +87,11 @@ void Kernel::notify_after(uint32_t event, uint32_t delay) {
   const uint32_t due = due_time_after(delay);
   if (is<DeltaPhase>(pending) && !wrong(Rule::time_replaces_delta)) return;
   if (standing && *standing <= due && !wrong(Rule::later_replaces_earlier)) return;
-  if (!standing || wrong(Rule::replacement_adds)) due_time_is_added(); // a replacement adds none
+  if (!standing || wrong(Rule::replacement_adds)) due_time_is_added(); // one that takes the place of another needs no room
   pending = DueTime{due};
 }
 
-// Suspend acts at once and drops a pending resume. On ended threads it does nothing.
+// The rule on suspension: immediate, and it undoes a resume that hasn't acted yet. Threads past their end are left alone.
 void Kernel::suspend(uint32_t thread) {
   Thread &t = threads[thread];
   if (t.ended) return;
@@ -98,7 +99,7 @@ void Kernel::suspend(uint32_t thread) {
   if (!wrong(Rule::suspend_keeps_resume)) t.resume_pending = false;
 }
 
-// Resume of a suspended thread takes effect in the next delta phase; of another, it has no effect.
+// The rule on resumption: only a suspended thread can be resumed, and it stays suspended until the coming delta phase.
 void Kernel::resume(uint32_t thread) {
   Thread &t = threads[thread];
   if (t.ended) return;
@@ -107,7 +108,7 @@ void Kernel::resume(uint32_t thread) {
   t.resume_pending = true;
 }
 
-// All delta work is done together: events pending for delta trigger, waits for 0 end, resumes take effect.
+// The delta phase has three kinds of work: events that pend for it, waits for 0, and resumes. None of them sees what another one does.
 void Kernel::delta_phase() {
   for (uint32_t e = 0; e < events.size(); ++e) {
     if (!is<DeltaPhase>(events[e].pending)) continue;
@@ -123,7 +124,7 @@ void Kernel::delta_phase() {
   }
 }
 
-// The least due time of events and threads.
+// The rule on time: which due time comes next, if there is any. Suspended threads have theirs too.
 std::optional<uint32_t> Kernel::least_due_time() const {
   std::optional<uint32_t> least;
   const auto consider = [&least](std::optional<uint32_t> due) {
@@ -147,7 +148,7 @@ void Kernel::serve(uint32_t time) {
     if (due_time(t.waiting) == time) t.waiting = Nothing{};
 }
 
-// A trigger frees each thread waiting for that event, suspended ones included.
+// The rule on triggers: nobody waits for this event any more, and being suspended is no reason to miss it.
 void Kernel::trigger(uint32_t event) {
   bool freed = false;
   for (Thread &t : threads) {
@@ -160,14 +161,14 @@ void Kernel::trigger(uint32_t event) {
   events[event].remembered = !freed;
 }
 
-// 17: a due time asked for is above 4,294,967,295.
+// Number 17: the clock has no such time.
 uint32_t Kernel::due_time_after(uint32_t delay) const {
   const uint64_t due = uint64_t{now} + delay;
   if (due > last_time || (wrong(Rule::last_time_is_17) && due == last_time)) throw Stop{17};
   return static_cast<uint32_t>(due);
 }
 
-// 23: a due time is to be added and 48 stand.
+// Number 23: as many due times stand as there may be.
 void Kernel::due_time_is_added() const {
   if (due_times_standing() >= most_due_times - (wrong(Rule::due_times_47) ? 1 : 0)) throw Stop{23};
 }
@@ -175,7 +176,8 @@ void Kernel::due_time_is_added() const {
 std::size_t Kernel::due_times_standing() const {
   const auto pends = [](const Event &e) { return is<DueTime>(e.pending); };
   const auto waits = [](const Thread &t) { return is<DueTime>(t.waiting); };
-  return static_cast<std::size_t>(std::count_if(events.begin(), events.end(), pends) + std::count_if(threads.begin(), threads.end(), waits));
+  return static_cast<std::size_t>(std::count_if(events.begin(), events.end(), pends) +
+                                  std::count_if(threads.begin(), threads.end(), waits));
 }
 
 } // namespace independent

@@ -1,4 +1,4 @@
-// Events, threads, updates and time: document 01's section "The kernel", without the instructions.
+// Events, threads, updates and time. The rules named in the comments are those of document 01's section on the kernel, in its order.
 #pragma once
 
 #include <cstddef>
@@ -18,10 +18,10 @@ struct AnEvent {
   uint32_t number;
 };
 
-// An event pends for nothing, for the delta phase, or for a due time.
+// What is to become of an event.
 using Pending = std::variant<Nothing, DeltaPhase, DueTime>;
 
-// A thread waits for nothing, for an event, for the next delta phase (wait for time 0), or for a due time.
+// What a thread waits for. A wait for time 0 is one for the delta phase.
 using Waiting = std::variant<Nothing, AnEvent, DeltaPhase, DueTime>;
 
 struct Event {
@@ -60,7 +60,7 @@ public:
 
   void delta_phase();
   std::optional<uint32_t> least_due_time() const;
-  void serve(uint32_t time); // time becomes it, and all due then is triggered or freed together
+  void serve(uint32_t time); // moves the clock and does all that was to be done at that time
 
 private:
   void trigger(uint32_t event);

@@ -66,7 +66,7 @@ const Op *op_of(uint32_t code) {
   return nullptr;
 }
 
-// Main may hold all but 60 and 61, threads all but 67 and 68, updates all but 60 to 62 and 64 to 68.
+// Only threads wait and only main starts. An update's one kernel instruction is the delayed notification.
 bool may_hold(BodyKind kind, uint32_t code) {
   switch (kind) {
   case BodyKind::main: return code != 0x60 && (code != 0x61 || wrong(Rule::main_may_wait));

@@ -1,5 +1,6 @@
 // Wrong rules to plant in the simulator, one at a time, to see that the comparison notices each. They exist only where the build says
-// PLANTED_RULES; in the normal build `wrong` is false at compile time and nothing of them is left. Read the simulator as if `wrong` were false.
+// PLANTED_RULES; in the normal build `wrong` is false at compile time and nothing of them is left. Read the simulator as if `wrong` were
+// false.
 #pragma once
 
 #include "planted_rules.hpp"

@@ -50,7 +50,7 @@ private:
   const std::vector<uint32_t> &inputs_;
 
   Kernel kernel_;
-  std::vector<uint32_t> cells_; // each holds 0 at first
+  std::vector<uint32_t> cells_; // all 0 when the run begins
   uint32_t completed_ = 0, accepted_ = 0, taken_ = 0;
   std::optional<uint32_t> phase_end_; // 0 or 10, once there was a phase
   uint32_t body_ = 0, place_ = 0;     // of the instruction being carried out
@@ -68,7 +68,7 @@ Outcome Machine::run() {
   }
 }
 
-// 0 quiet, 10 limit: the phase ended so and main reached its end. 11: main ended without a start.
+// Main up to its end. How the phase ended is told only then; 11 says that there was none.
 uint32_t Machine::run_main() {
   uint32_t place = 0;
   while (place < design_.bodies[0].length) {
@@ -78,8 +78,8 @@ uint32_t Machine::run_main() {
   return phase_end_.value_or(no_start);
 }
 
-// Update phase, delta phase, then evaluation. After an evaluation the requested updates run, then the delta phase. If a thread is runnable,
-// evaluation follows, else time; then evaluation, or the time step again if no thread is runnable.
+// The rules on start, evaluation and time together. The phase begins with updates and a delta phase. Then rounds of evaluation, updates and
+// delta phase follow each other, and between them time moves until somebody can run.
 uint32_t Machine::phase(uint32_t limit) {
   if (!wrong(Rule::no_first_update_phase)) update_phase();
   if (!wrong(Rule::no_first_delta_phase)) kernel_.delta_phase();
@@ -97,7 +97,7 @@ uint32_t Machine::phase(uint32_t limit) {
   }
 }
 
-// While a thread is runnable, the next choice byte names the one dispatched.
+// The rule on evaluation: a choice for each dispatch, until nobody can run. 20 and 21 are found here.
 void Machine::evaluation() {
   for (uint32_t runnable = kernel_.runnable_threads(); runnable != 0; runnable = kernel_.runnable_threads()) {
     if (wrong(Rule::budget_before_choice) && completed_ == budget_) throw Stop{22};
@@ -114,7 +114,8 @@ void Machine::evaluation() {
   }
 }
 
-// It runs until it waits, suspends itself or reaches its end, where it has ended for good; one dispatched at its end just ends.
+// The rule on dispatches. After an instruction that made the thread wait or suspend itself it stands at the next place, which may be its
+// end; then it takes another dispatch to end it.
 void Machine::dispatch(uint32_t thread) {
   Thread &t = kernel_.threads[thread];
   const uint32_t length = design_.bodies[thread + 1].length;
@@ -129,7 +130,7 @@ void Machine::dispatch(uint32_t thread) {
   t.ended = true;
 }
 
-// The requested updates run, each once, by rising number; one counts as requested until it has reached its end.
+// The rule on updates: lowest number first, and a request is used up by one run.
 void Machine::update_phase() {
   for (uint32_t i = 0; i < design_.updates; ++i) {
     const uint32_t u = wrong(Rule::updates_fall) ? design_.updates - 1 - i : i;
@@ -141,7 +142,7 @@ void Machine::update_phase() {
   }
 }
 
-// The number with which the phase ends, or nothing if it goes on. A due time equal to the limit is served.
+// The rule on time: the number with which the phase ends, or nothing if it goes on. The limit itself still belongs to the phase.
 std::optional<uint32_t> Machine::time_phase(uint32_t limit) {
   const std::optional<uint32_t> due = kernel_.least_due_time();
   if (!due) return quiet;
@@ -154,7 +155,8 @@ std::optional<uint32_t> Machine::time_phase(uint32_t limit) {
   return std::nullopt;
 }
 
-// One instruction: 22, 18, then its own. One that stops the run changes nothing and isn't counted. The place of the next one.
+// One instruction; what is answered is the place after it. The paragraph on instructions orders the stops: budget, then 18, then those of
+// the op. A stop is thrown before anything is changed or counted.
 uint32_t Machine::step(uint32_t body, uint32_t place) {
   body_ = body;
   place_ = place;
@@ -174,7 +176,7 @@ uint32_t Machine::step(uint32_t body, uint32_t place) {
   return next;
 }
 
-// Start counts as completed when the phase begins.
+// The rule on start: it is counted before anything of the phase happens.
 void Machine::start(const Frame &f) {
   const uint32_t limit = f.op == 0x67 ? f.imm : static_cast<uint32_t>(last_time); // no due time is above the last one
   if (!wrong(Rule::start_counts_afterwards)) ++completed_;
@@ -217,7 +219,7 @@ void Machine::obey_kernel(const Frame &f, uint32_t body) {
   }
 }
 
-// 19: the inputs are used up.
+// Number 19: there is no further input.
 uint32_t Machine::next_input() {
   if (taken_ == inputs_.size()) {
     if (wrong(Rule::missing_input_counts)) ++taken_;
@@ -226,14 +228,14 @@ uint32_t Machine::next_input() {
   return inputs_[taken_++];
 }
 
-// Place (value of a) of the region of b cells from cell imm. 16: the place isn't below the region's length.
+// The cell that a load or store means: a's value counts from cell imm, and must stay inside the b cells from there; number 16 otherwise.
 uint32_t &Machine::cell_of_region(const Frame &f) {
   const uint32_t place = cells_[f.a];
   if (place > f.b || (place == f.b && !wrong(Rule::region_one_longer))) throw Stop{16};
   return cells_.at(f.imm + place);
 }
 
-// Not 0 holds.
+// Asserts and assumes hold for every value but 0.
 void Machine::holds(uint32_t value, uint32_t number) const {
   if (value == 0) throw Stop{number};
 }
@@ -250,7 +252,7 @@ Outcome run(const Design &design, uint32_t budget, const Chooser &chooser, const
   return Machine(design, budget, chooser, inputs).run();
 }
 
-// 9 (choices at line 1, then inputs at line 2), 8 (cell buffer under 256), then 2 to 7 over the whole table.
+// The paragraph on refusals, for the run: first the job's lists, then the room for cells, then the table.
 Outcome run(const Job &job, std::size_t room_in_cells) {
   if (wrong(Rule::cells_before_job) && room_in_cells < most_cells) return refusal(8, 0);
   if (wrong(Rule::inputs_before_choices) && job.inputs.size() > most_inputs) return refusal(9, 2);

@@ -1,4 +1,4 @@
-// A run of one design under given choices, inputs and budget.
+// The run: a design, a budget, and who is chosen and what is put in.
 #pragma once
 
 #include "design.hpp"
@@ -33,7 +33,7 @@ struct Job {
   std::vector<uint64_t> table;
 };
 
-// The run as it is called: 9, 8, 2 to 7, and only then the run itself.
+// The run as it is called, which may be refused before it begins.
 Outcome run(const Job &job, std::size_t room_in_cells);
 
 } // namespace independent
