@@ -1,0 +1,116 @@
+// The run program beside the independent simulator: compare_program [PROGRAM [JOBS [SEED]]]. What it prints is compared byte by byte;
+// nothing may stand on standard error, and it may not be ended by a signal. Then the wrong rules that show in job files only are planted,
+// one at a time.
+#include "job_files.hpp"
+#include "program_runs.hpp"
+#include "reduce.hpp"
+
+#include "../independent/job.hpp"
+#include "../independent/planted.hpp"
+
+#include <exception>
+#include <filesystem>
+#include <fstream>
+#include <functional>
+#include <iostream>
+
+#ifndef PLANTED_RULES
+#error "this program needs -DPLANTED_RULES"
+#endif
+
+namespace {
+
+using namespace compare;
+
+struct Group {
+  const char *name;
+  std::vector<JobFile> files;
+  std::vector<Printed> printed;
+};
+
+int passed = 0;
+int failed = 0;
+
+void check(bool holds, const std::string &what) {
+  holds ? ++passed : ++failed;
+  std::cout << (holds ? "ok: " : "FAILED: ") << what << '\n';
+}
+
+bool differs(const JobFile &file, const Printed &printed) {
+  if (printed.output != independent::answer_job(file.bytes)) return true;
+  if (file.printed && printed.output != *file.printed) return true;
+  return !printed.errors.empty() || printed.status < 0 || printed.status > 127;
+}
+
+// The job file made small, where it was made of a case.
+std::string reduced_file(const JobFile &file, const std::string &program, const std::string &folder) {
+  if (!file.from) return file.bytes;
+  const auto still = [&](const Case &c) {
+    const JobFile smaller{job_file(c), std::nullopt, std::nullopt};
+    return differs(smaller, run_program(program, {smaller.bytes}, folder)[0]);
+  };
+  return job_file(reduced(*file.from, still, 500));
+}
+
+void show(const JobFile &file, const std::string &program, const std::string &folder) {
+  const std::string small = reduced_file(file, program, folder + "/reducing");
+  const Printed printed = run_program(program, {small}, folder + "/reducing")[0];
+  const std::string path = folder + "/difference.job";
+  std::ofstream(path, std::ios::binary) << small;
+  std::cout << "DIFFERENCE: job file " << path << ":\n"
+            << small << "end of job file\nthe program prints:\n"
+            << printed.output << "the simulator prints:\n"
+            << independent::answer_job(small) << "the program's standard error: '" << printed.errors << "', status " << printed.status
+            << '\n';
+}
+
+void compare_group(Group &group, const std::string &program, const std::string &folder) {
+  std::vector<std::string> inputs;
+  for (const JobFile &file : group.files) inputs.push_back(file.bytes);
+  group.printed = run_program(program, inputs, folder);
+  std::size_t differences = 0;
+  for (std::size_t i = 0; i < group.files.size(); ++i)
+    if (differs(group.files[i], group.printed[i]) && ++differences == 1) show(group.files[i], program, folder);
+  check(differences == 0, std::string(group.name) + ": " + std::to_string(group.files.size()) + " job files, " +
+                              std::to_string(differences) + " differences");
+}
+
+#define PLANTED_ROW(name, words) {independent::Rule::name, words},
+const std::vector<std::pair<independent::Rule, const char *>> rules = {PLANTED_JOB_RULES(PLANTED_ROW)};
+#undef PLANTED_ROW
+
+bool noticed(const std::vector<Group> &groups) {
+  for (const Group &group : groups)
+    for (std::size_t i = 0; i < group.files.size(); ++i)
+      if (differs(group.files[i], group.printed[i])) return true;
+  return false;
+}
+
+} // namespace
+
+int main(int argc, char **argv) try {
+  const std::filesystem::path here = std::filesystem::absolute(argv[0]).parent_path();
+  const std::string program =
+      std::filesystem::absolute(argc > 1 ? std::filesystem::path(argv[1]) : here / "../bin/ivlrun").lexically_normal().string();
+  const std::size_t jobs = argc > 2 ? std::stoull(argv[2]) : 1000;
+  const uint64_t seed = argc > 3 ? std::stoull(argv[3]) : 1;
+  const std::string folder = (here / "program_jobs").string();
+  std::cout << program << ", seed " << seed << '\n';
+  Random r(seed);
+  std::vector<Group> groups = {{"document 01's job cut at every position", cut_files(), {}},
+                               {"bad job lines on purpose", bad_line_files(r, jobs / 3), {}},
+                               {"damaged job files", damaged_files(r, jobs / 3), {}},
+                               {"more input than is needed", long_files(), {}},
+                               {"random jobs", drawn_files(seed, jobs), {}}};
+  for (Group &group : groups) compare_group(group, program, folder);
+  const bool alike = failed == 0;
+  for (const auto &[rule, words] : rules) {
+    independent::planted = rule;
+    check(alike && noticed(groups), std::string("a wrong rule is noticed: ") + words);
+  }
+  std::cout << passed << " passed, " << failed << " failed\n";
+  return failed == 0 ? 0 : 1;
+} catch (const std::exception &failure) {
+  std::cout << "FAILED: " << failure.what() << '\n' << passed << " passed, " << failed + 1 << " failed\n";
+  return 1;
+}
