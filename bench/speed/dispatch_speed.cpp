@@ -2,6 +2,9 @@
 // fishdavit_run the mean over four places of the code.
 #include "native_loads.hpp"
 #include "timing.hpp"
+#ifdef INDEPENDENT
+#include "../independent/run.hpp"
+#endif
 
 #include <cstdio>
 #include <cstdlib>
@@ -33,14 +36,27 @@ void add_ours(std::vector<Work> &works, const DispatchLoad &load) {
     });
 }
 
-// Another simulator is a further piece of work here, and a further column.
+// The independent simulator, where it stands beside this folder: a further piece of work, and a further column.
+void add_independent([[maybe_unused]] std::vector<Work> &works, [[maybe_unused]] const DispatchLoad &load) {
+#ifdef INDEPENDENT
+  independent::Job job;
+  job.budget = 0xffffffff;
+  job.choices = load.choices;
+  job.table = load.table;
+  works.push_back([job] { return static_cast<double>(independent::run(job, 256).answer.choices); });
+#endif
+}
+
 void measure(const DispatchLoad &load, NativeLoad &native) {
   std::vector<Work> works;
   add_ours(works, load);
   works.push_back([&] { return static_cast<double>(native.run(load.choices.size())); });
+  add_independent(works, load);
   const std::vector<double> best = best_of(rounds, works);
   const double ours = mean_of(best, 0, places);
-  std::printf("%-34s %10.1f %10.1f %8.2f\n", load.name.c_str(), ours, best[places], ours / best[places]);
+  std::printf("%-40s %10.1f", load.name.c_str(), ours);
+  for (std::size_t k = places; k < best.size(); ++k) std::printf(" %11.1f %6.2f", best[k], ours / best[k]);
+  std::printf("\n");
 }
 
 void measure_alone(const DispatchLoad &load) {
@@ -53,7 +69,7 @@ void measure_alone(const DispatchLoad &load) {
     return 100.0;
   });
   const std::vector<double> best = best_of(rounds, works);
-  std::printf("%-34s %10.1f %10.1f\n", load.name.c_str(), mean_of(best, 0, places), best[places]);
+  std::printf("%-40s %10.1f %11.1f\n", load.name.c_str(), mean_of(best, 0, places), best[places]);
 }
 
 void beside_systemc() {
@@ -64,7 +80,11 @@ void beside_systemc() {
   NativeThousand compiled("compiled", false);
   NativeThousand interpreted("interpreted", true);
   sc_core::sc_start(sc_core::SC_ZERO_TIME);
-  std::printf("%-34s %10s %10s %8s\n", "ns a dispatch", "fishdavit", "SystemC", "ratio");
+  std::printf("%-40s %10s %11s %6s", "ns a dispatch", "fishdavit", "SystemC", "ratio");
+#ifdef INDEPENDENT
+  std::printf(" %11s %6s", "independent", "ratio");
+#endif
+  std::printf("\n");
   measure(delta_ring("delta ping-pong of 2", 2), two);
   measure(delta_ring("delta ring of 16", 16), sixteen);
   measure(timed_waits(16), timed);
@@ -77,8 +97,8 @@ void beside_systemc() {
 }
 
 void growth() {
-  std::printf("\n%-34s %10s %10s\n", "one thread runs, fishdavit", "ns a", "ns an");
-  std::printf("%-34s %10s %10s\n", "", "dispatch", "empty run");
+  std::printf("\n%-40s %10s %11s\n", "one thread runs, fishdavit", "ns a", "ns an");
+  std::printf("%-40s %10s %11s\n", "", "dispatch", "empty run");
   for (const uint8_t threads : {1, 2, 4, 8, 16}) measure_alone(one_among(threads, 1));
   for (const uint8_t events : {2, 4, 8, 16, 32}) measure_alone(one_among(1, events));
   measure_alone(one_among(16, 32));
