@@ -64,11 +64,11 @@ inline Body thousand_body() {
   return body;
 }
 
-inline DispatchLoad thousand_instructions() {
+inline DispatchLoad thousand_instructions(const std::string &how) {
   Design design;
   design.main = {frame(0x68)};
   design.threads = {thousand_body()};
-  return {"1,000 instructions a wait", table_of(design), std::vector<uint8_t>(500)};
+  return {"1,000 instructions a wait" + how, table_of(design), std::vector<uint8_t>(100)};
 }
 
 // Thread 0 notifies an event at once, for which all the others wait, and waits for the next delta phase.

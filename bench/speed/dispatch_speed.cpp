@@ -11,8 +11,17 @@
 
 namespace {
 
-constexpr int rounds = 40;
+constexpr int rounds = 250;
+constexpr int empty_runs = 100;
 constexpr std::size_t places = aligned_runs.size();
+
+// A load and where its measurements stand among all: fishdavit_run in its four places, then the others.
+struct Row {
+  DispatchLoad load;
+  NativeLoad *native;
+  std::size_t first;
+  std::size_t past;
+};
 
 fishdavit_answer run_load(Run *run, const DispatchLoad &load) {
   static Cells cells;
@@ -26,7 +35,6 @@ void demand_end(const DispatchLoad &load) {
   std::exit(1);
 }
 
-// fishdavit_run in its four places: nanoseconds a dispatch, set-up included.
 void add_ours(std::vector<Work> &works, const DispatchLoad &load) {
   demand_end(load);
   for (Run *run : aligned_runs)
@@ -34,6 +42,15 @@ void add_ours(std::vector<Work> &works, const DispatchLoad &load) {
       run_load(run, load);
       return static_cast<double>(load.choices.size());
     });
+}
+
+// The set-up alone: a run without choices.
+void add_empty(std::vector<Work> &works, const DispatchLoad &load) {
+  DispatchLoad empty = {load.name, load.table, {}};
+  works.push_back([empty] {
+    for (int i = 0; i < empty_runs; ++i) run_load(fishdavit_run_0, empty);
+    return static_cast<double>(empty_runs);
+  });
 }
 
 // The independent simulator, where it stands beside this folder: a further piece of work, and a further column.
@@ -47,32 +64,44 @@ void add_independent([[maybe_unused]] std::vector<Work> &works, [[maybe_unused]]
 #endif
 }
 
-void measure(const DispatchLoad &load, NativeLoad &native) {
-  std::vector<Work> works;
-  add_ours(works, load);
-  works.push_back([&] { return static_cast<double>(native.run(load.choices.size())); });
-  add_independent(works, load);
-  const std::vector<double> best = best_of(rounds, works);
-  const double ours = mean_of(best, 0, places);
-  std::printf("%-40s %10.1f", load.name.c_str(), ours);
-  for (std::size_t k = places; k < best.size(); ++k) std::printf(" %11.1f %6.2f", best[k], ours / best[k]);
+void add(std::vector<Work> &works, Row &row) {
+  row.first = works.size();
+  add_ours(works, row.load);
+  if (row.native != nullptr) {
+    works.push_back([&row] { return static_cast<double>(row.native->run(row.load.choices.size())); });
+    add_independent(works, row.load);
+  } else {
+    add_empty(works, row.load);
+  }
+  row.past = works.size();
+}
+
+void print_beside(const std::vector<Row> &rows, const std::vector<double> &best) {
+  std::printf("%-40s %10s %11s %6s", "ns a dispatch", "fishdavit", "SystemC", "ratio");
+#ifdef INDEPENDENT
+  std::printf(" %11s %6s", "independent", "ratio");
+#endif
   std::printf("\n");
+  for (const Row &row : rows) {
+    if (row.native == nullptr) continue;
+    const double ours = mean_of(best, row.first, places);
+    std::printf("%-40s %10.1f", row.load.name.c_str(), ours);
+    for (std::size_t k = row.first + places; k < row.past; ++k) std::printf(" %11.1f %6.2f", best[k], ours / best[k]);
+    std::printf("\n");
+  }
 }
 
-void measure_alone(const DispatchLoad &load) {
-  DispatchLoad empty = load;
-  empty.choices.clear();
-  std::vector<Work> works;
-  add_ours(works, load);
-  works.push_back([&empty] {
-    for (int i = 0; i < 100; ++i) run_load(fishdavit_run_0, empty);
-    return 100.0;
-  });
-  const std::vector<double> best = best_of(rounds, works);
-  std::printf("%-40s %10.1f %11.1f\n", load.name.c_str(), mean_of(best, 0, places), best[places]);
+void print_growth(const std::vector<Row> &rows, const std::vector<double> &best) {
+  std::printf("\n%-40s %10s %11s\n", "one thread runs, fishdavit", "ns a", "ns an");
+  std::printf("%-40s %10s %11s\n", "", "dispatch", "empty run");
+  for (const Row &row : rows)
+    if (row.native == nullptr) std::printf("%-40s %10.1f %11.1f\n", row.load.name.c_str(), mean_of(best, row.first, places), best[row.first + places]);
 }
 
-void beside_systemc() {
+} // namespace
+
+int sc_main(int, char **) {
+  sc_core::sc_report_handler::set_actions(sc_core::SC_WARNING, sc_core::SC_DO_NOTHING);
   NativeRing two("two", 2);
   NativeRing sixteen("sixteen", 16);
   NativeTimed timed("timed", 16);
@@ -80,36 +109,20 @@ void beside_systemc() {
   NativeThousand compiled("compiled", false);
   NativeThousand interpreted("interpreted", true);
   sc_core::sc_start(sc_core::SC_ZERO_TIME);
-  std::printf("%-40s %10s %11s %6s", "ns a dispatch", "fishdavit", "SystemC", "ratio");
-#ifdef INDEPENDENT
-  std::printf(" %11s %6s", "independent", "ratio");
-#endif
-  std::printf("\n");
-  measure(delta_ring("delta ping-pong of 2", 2), two);
-  measure(delta_ring("delta ring of 16", 16), sixteen);
-  measure(timed_waits(16), timed);
-  measure(one_to_many(16), many);
-  DispatchLoad thousand = thousand_instructions();
-  thousand.name += ", compiled";
-  measure(thousand, compiled);
-  thousand.name = thousand_instructions().name + ", interpreted";
-  measure(thousand, interpreted);
-}
-
-void growth() {
-  std::printf("\n%-40s %10s %11s\n", "one thread runs, fishdavit", "ns a", "ns an");
-  std::printf("%-40s %10s %11s\n", "", "dispatch", "empty run");
-  for (const uint8_t threads : {1, 2, 4, 8, 16}) measure_alone(one_among(threads, 1));
-  for (const uint8_t events : {2, 4, 8, 16, 32}) measure_alone(one_among(1, events));
-  measure_alone(one_among(16, 32));
-}
-
-} // namespace
-
-int sc_main(int, char **) {
-  sc_core::sc_report_handler::set_actions(sc_core::SC_WARNING, sc_core::SC_DO_NOTHING);
-  beside_systemc();
-  growth();
+  std::vector<Row> rows = {{delta_ring("delta ping-pong of 2", 2), &two, 0, 0},
+                           {delta_ring("delta ring of 16", 16), &sixteen, 0, 0},
+                           {timed_waits(16), &timed, 0, 0},
+                           {one_to_many(16), &many, 0, 0},
+                           {thousand_instructions(", compiled"), &compiled, 0, 0},
+                           {thousand_instructions(", interpreted"), &interpreted, 0, 0}};
+  for (const uint8_t threads : {1, 2, 4, 8, 16}) rows.push_back({one_among(threads, 1), nullptr, 0, 0});
+  for (const uint8_t events : {2, 4, 8, 16, 32}) rows.push_back({one_among(1, events), nullptr, 0, 0});
+  rows.push_back({one_among(16, 32), nullptr, 0, 0});
+  std::vector<Work> works;
+  for (Row &row : rows) add(works, row);
+  const std::vector<double> best = best_of(rounds, works);
+  print_beside(rows, best);
+  print_growth(rows, best);
   return 0;
 }
 

@@ -80,7 +80,7 @@ int main() {
   std::printf("seed %llu\n", static_cast<unsigned long long>(seed));
   std::mt19937_64 random(seed);
   for (int i = 0; i < bodies; ++i) check_body(random);
-  for (const DispatchLoad &load : {delta_ring("ping-pong", 2), delta_ring("ring", 16), timed_waits(16), one_to_many(16), thousand_instructions(),
+  for (const DispatchLoad &load : {delta_ring("ping-pong", 2), delta_ring("ring", 16), timed_waits(16), one_to_many(16), thousand_instructions(""),
                                    one_among(1, 32), one_among(16, 1)})
     check_load(load);
   std::printf("%d passed, %d failed\n", passed, failed);
