@@ -1,7 +1,9 @@
 // Runs cases on the judge, the reader and the writer of design images. Each is printed with its answer: the number as
-// two digits, then the line of a refusal or the count of an acceptance. The file stdout says what must come out.
+// two digits, then the line of a refusal or the count of an acceptance. Then the jobs of the file stdin are run, each
+// printed with the whole answer of the program. The file stdout says what must come out.
 mod bytes;
 mod case;
+mod jobs;
 mod ops;
 mod tables;
 mod texts;
@@ -20,6 +22,7 @@ fn main() {
     texts::lines();
     texts::starts();
     texts::room();
+    jobs::answers();
 }
 
 // The cases of document 01, "Both sides of the line", that a program runs, and its job's image.
