@@ -1,5 +1,7 @@
-// Jobs from standard input, one after another. Each has a line of its own before it, its title, which begins with `#`; the job is what follows up
-// to the next line that begins so, or to the input's end. The title is printed as it stands, and after it the job's answer.
+// The cases of standard input, one after another. Each begins with a line of its own, by whose first byte it is known:
+// `+` is a heading, `-` a table to be judged, `#` a job to be answered. What belongs to it are the lines up to the next
+// that begins with one of the three, or to the input's end.
+use crate::tables;
 ghost use Prim.Native.Nat.{_<_, _≤_};
 ghost use lib.ListN.{length};
 
@@ -25,15 +27,19 @@ fn past_line(text: &[u8], at: usize) -> usize
     i
 }
 
-// Where the next title begins, looked for at this line and those after it; or the text's end.
-fn past_job(text: &[u8], at: usize) -> usize
+fn is_mark(byte: u8) -> bool {
+    byte == b'+' || byte == b'-' || byte == b'#'
+}
+
+// Where the next case begins, looked for at this line and those after it; or the text's end.
+fn past_lines(text: &[u8], at: usize) -> usize
     requires { ⌜ at ≤ length (now text) ⌝ }
     ensures { λ r. ⌜ at ≤ r ⌝ }
     ensures { λ r. ⌜ r ≤ length (now (text .entry)) ⌝ }
 {
     let mut line = at;
     while line < text.len() {
-        if text[line] == b'#' {
+        if is_mark(text[line]) {
             return line;
         }
         line = past_line(text, line);
@@ -47,22 +53,31 @@ fn print_first(out: &[u8], bytes: usize) {
     }
 }
 
-fn answer(job: &[u8]) {
+// The title is printed as it stands, and after it the whole answer of the program.
+fn answered(title: &[u8], job: &[u8]) {
     let mut out = [0u8; ANSWER];
     let bytes = job::answer(job, &mut out);
+    io::write_all(1, title);
     print_first(&out, bytes);
 }
 
-// One title and its job. The answer is where the next title begins.
+fn printed(mark: u8, title: &[u8], lines: &[u8]) {
+    match mark {
+        b'-' => tables::judged(title, lines),
+        b'#' => answered(title, lines),
+        _ => tables::heading(title),
+    }
+}
+
+// One case. Its answer is where the next begins.
 fn one_case(text: &[u8], at: usize) -> usize
     requires { ⌜ at < length (now text) ⌝ }
     ensures { λ r. ⌜ at < r ⌝ }
     ensures { λ r. ⌜ r ≤ length (now (text .entry)) ⌝ }
 {
     let start = past_line(text, at);
-    let end = past_job(text, start);
-    io::write_all(1, &text[at..start]);
-    answer(&text[start..end]);
+    let end = past_lines(text, start);
+    printed(text[at], &text[at..start], &text[start..end]);
     end
 }
 

@@ -1,5 +1,5 @@
 -- The next title begins later from turn to turn.
-use Prim.Native.Nat.{_≤_, _-_}
+use Prim.Native.Nat.{_-_}
 use lib.ListN.{length}
 use borrow.Author.Needs.{needs}
 use Rattle.vectors.proofs.jobs.each_case.Statement.{statement}
