@@ -61,14 +61,6 @@ fn answered(title: &[u8], job: &[u8]) {
     print_first(&out, bytes);
 }
 
-fn printed(mark: u8, title: &[u8], lines: &[u8]) {
-    match mark {
-        b'-' => tables::judged(title, lines),
-        b'#' => answered(title, lines),
-        _ => tables::heading(title),
-    }
-}
-
 // One case. Its answer is where the next begins.
 fn one_case(text: &[u8], at: usize) -> usize
     requires { ⌜ at < length (now text) ⌝ }
@@ -77,7 +69,11 @@ fn one_case(text: &[u8], at: usize) -> usize
 {
     let start = past_line(text, at);
     let end = past_lines(text, start);
-    printed(text[at], &text[at..start], &text[start..end]);
+    if text[at] == b'#' {
+        answered(&text[at..start], &text[start..end]);
+    } else {
+        tables::shown(text[at], &text[at..start], &text[start..end]);
+    }
     end
 }
 

@@ -8,7 +8,7 @@ use image::Image;
 const ROW: usize = 22;
 
 // What the title says after its mark and a blank.
-pub fn heading(title: &[u8]) {
+fn heading(title: &[u8]) {
     if 2 <= title.len() {
         io::write_all(1, &title[2..]);
     }
@@ -64,9 +64,17 @@ fn first_judged(table: &[u64], frames: usize) {
     }
 }
 
-pub fn judged(title: &[u8], rows: &[u8]) {
+fn judged(title: &[u8], rows: &[u8]) {
     let mut table = [0u64; Image::LINES + 1];
     let frames = put_rows(rows, &mut table);
     label(title);
     first_judged(&table, frames);
+}
+
+pub fn shown(mark: u8, title: &[u8], rows: &[u8]) {
+    if mark == b'-' {
+        judged(title, rows);
+    } else {
+        heading(title);
+    }
 }
