@@ -50,40 +50,10 @@ fn say(label: &[u8], a: Verdict) {
     answer(a);
 }
 
-pub fn judged(label: &[u8], table: &[u64]) {
-    say(label, image::judge(table));
-}
-
-fn first_judged(label: &[u8], table: &[u64], frames: usize) {
-    if frames <= table.len() {
-        judged(label, &table[0..frames]);
-    }
-}
-
 pub fn set(table: &mut [u64], line: usize, frame: u64) {
     if line < table.len() {
         table[line] = frame;
     }
-}
-
-// A header and body frames of length 0, so many frames together.
-pub fn header(label: &[u8], frame: u64, frames: usize) {
-    let mut table = [BODY; 34];
-    set(&mut table, 0, frame);
-    first_judged(label, &table, frames);
-}
-
-// A main of this length and no other body, so many frames together.
-pub fn main_of(label: &[u8], length: u64, frames: usize) {
-    let mut table = [GOTO; Image::LINES];
-    set(&mut table, 0, 0xa000_0000_0000_0001);
-    set(&mut table, 1, BODY | length);
-    first_judged(label, &table, frames);
-}
-
-// One instruction in the main of a design with one cell and nothing else.
-pub fn instruction(label: &[u8], frame: u64) {
-    judged(label, &[0xa000_0000_0000_0001, BODY | 1, frame]);
 }
 
 fn lengths(table: &mut [u64]) {
@@ -100,19 +70,6 @@ fn largest() -> [u64; Image::LINES + 1] {
     set(&mut table, 1, BODY | 32);
     lengths(&mut table);
     table
-}
-
-// The largest image with one frame changed.
-pub fn changed(label: &[u8], line: usize, frame: u64) {
-    let mut table = largest();
-    set(&mut table, line, frame);
-    first_judged(label, &table, Image::LINES);
-}
-
-// The first frames of the largest image and of what stands behind it.
-pub fn first_frames(label: &[u8], frames: usize) {
-    let table = largest();
-    first_judged(label, &table, frames);
 }
 
 // A table of so many words is lent.

@@ -3,6 +3,10 @@ use crate::bytes;
 use crate::case;
 
 pub fn lines() {
+    case::heading(b"first and last lines of text");
+    case::read(b"empty input", b"");
+    case::changed_byte(b"line, first", 0, b'A');
+    case::changed_byte(b"line, last", 17 * 1057 + 16, b' ');
     case::heading(b"every byte for the a of line 1's a1: 00 with 2, or at 1");
     bytes::every_byte(17, 1);
     case::heading(b"every byte for line 0's 0a: 00 with 2, or at 0");
