@@ -12,7 +12,7 @@ use Rattle.frame.specs.declared.Frame.{Frame}
 use Rattle.frame.specs.Ops.{Meaning, takesImm, takesInput, one, two, may, load, store, goto, gotoIf, holds, waitEvent, waitTime, notify, notifyAfter, request, suspend, resume as resumeOp, startLimit, start, unknown}
 use Rattle.kernel.specs.Search.{Found, none, found}
 use Rattle.kernel.specs.Design.{Table}
-use Rattle.kernel.specs.Kernel.{Due, never, delta, at, earlier, afterDelay, Wait, till, Deed, nothing, notifies, asks, waits, requests, suspends, resumes, Happening, ran, triggered, freed, resumed, ended, dispatched, finished, began, moved, quiet, limited, History, Stage, before, during, past, after, kernel}
+use Rattle.kernel.specs.Kernel.{Due, never, delta, at, earlier, afterDelay, Wait, till, Deed, nothing, reads, notifies, asks, waits, requests, suspends, resumes, Happening, ran, triggered, freed, resumed, ended, dispatched, finished, began, moved, quiet, limited, History, Stage, before, during, past, after, kernel}
 use Rattle.kernel.specs.Pending.{dueOf, resumeDue}
 use Rattle.kernel.specs.Effect.{View, Effect, stops, sets, takes, goes, does, begins, stopIf, setsTo, takesTo, goesIf, startsIn, mainPast, isNever, asksFor, effect}
 use Rattle.kernel.specs.Words.{clock}
@@ -27,6 +27,7 @@ Ahead n (at u) = n < u
 
 abbrev pub AheadDeed : ℕ → Deed → Type 0
 AheadDeed n nothing = Unit {0}
+AheadDeed n reads = Unit {0}
 AheadDeed n (notifies e) = Unit {0}
 AheadDeed n (asks e d) = Ahead n d
 AheadDeed n (waits w) = Ahead n (dueOf w)

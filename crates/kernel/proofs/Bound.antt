@@ -10,7 +10,7 @@ use borrow.Author.Tests.{ltb-true}
 use Rattle.laws.specs.Choice.{if_then_else_, and-left, and-right}
 use Rattle.kernel.specs.Search.{Found, any}
 use Rattle.kernel.specs.Design.{Table, Body, main, thread, update, threads, updates}
-use Rattle.kernel.specs.Kernel.{delta, Kernel, Deed, nothing, Happening, ran, began, ended, moved, quiet, limited, after, kernel}
+use Rattle.kernel.specs.Kernel.{delta, Kernel, Deed, nothing, reads, Happening, ran, began, ended, moved, quiet, limited, after, kernel}
 use Rattle.kernel.specs.Pending.{runnable}
 use Rattle.kernel.specs.Effect.{Effect, stops, sets, takes, goes, does, begins}
 use Rattle.kernel.specs.Machine.{Job, Control, running, updatePhase, deltaPhase, turn, evaluation, timePhase, over, Machine, State, Out, out, goTo}
@@ -105,15 +105,15 @@ module _ (j : Job) (s : State) where
       let l = load-ran t k b x in
       omega arith
 
-  less-on : (b : Body) → m .instructions < j .budget → remains j (suc (m .instructions)) (m .choices) (after (ran b nothing) k) (running b) < here (running b)
-  less-on b h = less-ran b nothing (running b) h (omega (arith, same-weight b (after (ran b nothing) k)))
+  less-on : (b : Body) (x : Deed) → m .instructions < j .budget → remains j (suc (m .instructions)) (m .choices) (after (ran b x) k) (running b) < here (running b)
+  less-on b x h = less-ran b x (running b) h (omega (arith, same-weight b (after (ran b x) k)))
 
   less-perform : (b : Body) (x : Effect) → m .instructions < j .budget → Less (running b) (perform j s b x)
   unfolding perform kernel
   less-perform b (stops n) h = omega (arith, body-weight b)
-  less-perform b (sets d x) h = less-on b h
-  less-perform b (takes d x) h = less-on b h
-  less-perform b (goes p) h = less-on b h
+  less-perform b (sets d x) h = less-on b nothing h
+  less-perform b (takes d x) h = less-on b reads h
+  less-perform b (goes p) h = less-on b nothing h
   less-perform b (does x) h = less-ran b x (runsOn j s b (after (ran b x) k)) h (on-weight b (after (ran b x) k))
   less-perform b (begins l) h =
       let e = left-instruction j (m .instructions) (m .choices) h in

@@ -6,7 +6,7 @@ use mathlib.Core.List.{_∷_, _++_}
 use lib.Dec.{ltb, eqb}
 use Rattle.laws.specs.Choice.{if_then_else_}
 use Rattle.kernel.specs.Design.{Table, Body, main, thread, update, updates}
-use Rattle.kernel.specs.Kernel.{Kernel, Deed, nothing, notifies, asks, waits, requests, suspends, resumes, ran, after, kernel}
+use Rattle.kernel.specs.Kernel.{Kernel, Deed, nothing, reads, notifies, asks, waits, requests, suspends, resumes, ran, after, kernel}
 use Rattle.kernel.specs.Pending.{runnable, isRequested}
 use Rattle.kernel.specs.Effect.{Effect, stops, sets, takes, goes, does, begins}
 use Rattle.kernel.specs.Machine.{Job, Control, running, updatePhase, deltaPhase, turn, evaluation, timePhase, over, State, Out, init}
@@ -35,6 +35,7 @@ still-asked false z b q = q
 update-on : (t : Table) (k : Kernel) (u : ℕ) (x : Deed) → isRequested t k u ≡ true → isRequested t (after (ran (update u) x) k) u ≡ true
 unfolding after
 update-on t k u nothing q = q
+update-on t k u reads q = q
 update-on t k u (notifies e) q = q
 update-on t k u (asks e d) q = q
 update-on t k u (waits w) q = q
@@ -63,18 +64,17 @@ module _ (j : Job) (s : State) where
       go false q = tt
   runs-on (update u) x f = update-on t k u x f
 
-  goes-on : (b : Body) → Fits t k (running b) → Fits t (kernel (ran b nothing ∷ s .history)) (running b)
-  unfolding kernel after
-  goes-on main f = tt
-  goes-on (thread i) f = f
-  goes-on (update u) f = f
+  -- and a body goes on where nothing is asked of the kernel
+  goes-on : (b : Body) (x : Deed) → after (ran b x) k ≡ k → Fits t k (running b) → Fits t (kernel (ran b x ∷ s .history)) (running b)
+  unfolding kernel
+  goes-on b x q f = rw q f
 
   fits-perform : (b : Body) (x : Effect) → Fits t k (running b) → Kept (perform j s b x)
-  unfolding perform
+  unfolding perform after
   fits-perform b (stops n) f = tt
-  fits-perform b (sets d x) f = goes-on b f
-  fits-perform b (takes d x) f = goes-on b f
-  fits-perform b (goes p) f = goes-on b f
+  fits-perform b (sets d x) f = goes-on b nothing refl f
+  fits-perform b (takes d x) f = goes-on b reads refl f
+  fits-perform b (goes p) f = goes-on b nothing refl f
   fits-perform b (does x) f = runs-on b x f
   fits-perform b (begins l) f = tt
 

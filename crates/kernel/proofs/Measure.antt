@@ -12,7 +12,7 @@ use Rattle.laws.specs.Choice.{if_then_else_}
 use Rattle.word.specs.Word.{flag}
 use Rattle.kernel.specs.Search.{found, least, sum, edit}
 use Rattle.kernel.specs.Design.{Table, Body, main, thread, update, threads, events, updates}
-use Rattle.kernel.specs.Kernel.{Due, never, delta, at, earlier, Thread, waiting, ending, suspending, asksBack, Kernel, withThreads, Deed, nothing, notifies, asks, waits, requests, suspends, resumes, ran, triggered, ended, finished, History, after, kernel}
+use Rattle.kernel.specs.Kernel.{Due, never, delta, at, earlier, Thread, waiting, ending, suspending, asksBack, Kernel, withThreads, Deed, nothing, reads, notifies, asks, waits, requests, suspends, resumes, ran, triggered, ended, finished, History, after, kernel}
 use Rattle.kernel.specs.Pending.{dueOf, isTime, timesOf, sameDue, served, timeOf, leastTime}
 use Rattle.kernel.proofs.Search.{unfound, sum-le, sum-lt, sum-one, lesser-found, least-hit}
 use Rattle.kernel.proofs.Fields.{field-same, keeps-suspend, keeps-back}
@@ -85,6 +85,7 @@ module _ (t : Table) where
   pub load-ran : (k : Kernel) (b : Body) (x : Deed) → load (after (ran b x) k) ≤ suc (load k)
   unfolding after
   load-ran k b nothing = omega arith
+  load-ran k b reads = omega arith
   load-ran k b (notifies e) = let h : load (after (triggered e) k) ≤ load k = load-trigger k e in omega arith
   load-ran k b (asks e d) =
       let x : eventLoad (edit e (λ p. earlier d p) (k .pends)) ≤ suc (eventLoad (k .pends)) = sum-one _ _ e (λ i n. rw (ne-eqb i e n) (omega arith)) (omega (arith, time-one (edit e (λ p. earlier d p) (k .pends) e))) (events t) in

@@ -11,7 +11,7 @@ use Rattle.frame.specs.declared.Frame.{Frame}
 use Rattle.frame.specs.Ops.{meaningOf}
 use Rattle.kernel.specs.Search.{Found, none, found, first}
 use Rattle.kernel.specs.Design.{Table, Body, main, thread, update, threads, updates, number, instruction}
-use Rattle.kernel.specs.Kernel.{Due, never, delta, at, Kernel, Deed, nothing, Happening, ran, ended, dispatched, finished, began, moved, quiet, limited, History, Stage, during, past, after, kernel}
+use Rattle.kernel.specs.Kernel.{Due, never, delta, at, Kernel, Deed, nothing, reads, Happening, ran, ended, dispatched, finished, began, moved, quiet, limited, History, Stage, during, past, after, kernel}
 use Rattle.kernel.specs.Pending.{runnable, isRequested, leastTime, above, sameDue, served}
 use Rattle.kernel.specs.Effect.{Effect, stops, sets, takes, goes, does, begins}
 use Rattle.kernel.specs.Machine.{Job, Control, running, updatePhase, deltaPhase, turn, evaluation, timePhase, over, State, Out, init}
@@ -151,18 +151,21 @@ module _ (j : Job) (s : State) where
         go false q = (o .0, λ n u. left-off t n i x h (λ y. true≢false (sym (runnable-runs t (ran (thread i) x ∷ h) i y) ∙ q)) u)
     goes-or-not (update u) x o r = (o .0, yet refl (o .1), runs (o .2))
 
-    still-on : (b : Body) → Fits t k (running b) → Standing t h (running b) → Rightly t (ran b nothing ∷ h) → Standing t (ran b nothing ∷ h) (running b)
-    unfolding clock kernel after
-    still-on main f o r = o
-    still-on (thread i) f o r = (o .0, goes-on (o .1) (runs-runnable t (ran (thread i) nothing ∷ h) i r f))
-    still-on (update u) f o r = (o .0, yet refl (o .1), runs (o .2))
+    still-on : (b : Body) (x : Deed) → after (ran b x) k ≡ k → Fits t k (running b) → Standing t h (running b) → Rightly t (ran b x ∷ h) → Standing t (ran b x ∷ h) (running b)
+    unfolding clock kernel
+    still-on main x q f o r = o
+    still-on (thread i) x q f o r = (o .0, goes-on (o .1) (runs-runnable t (ran (thread i) x ∷ h) i r (rw q f)))
+    still-on (update u) x q f o r = (o .0, yet refl (o .1), runs (o .2))
+
+    goes-by : (b : Body) (x : Deed) → after (ran b x) k ≡ k → AheadDeed (clock h .time) x → Fits t k (running b) → Standing t h (running b) → Sound t (ran b x ∷ h) (running b)
+    goes-by b x q a f o = has-run b x (running b) f o a (still-on b x q f o)
 
     performs : (b : Body) (x : Effect) → Allowed (clock h .time) (clock h .stage) x → Fits t k (running b) → Standing t h (running b) → Good (perform j s b x)
-    unfolding perform clock
+    unfolding perform clock after
     performs b (stops n) a f o = stays-at _ tt
-    performs b (sets d x) a f o = has-run b nothing (running b) f o tt (still-on b f o)
-    performs b (takes d x) a f o = has-run b nothing (running b) f o tt (still-on b f o)
-    performs b (goes n) a f o = has-run b nothing (running b) f o tt (still-on b f o)
+    performs b (sets d x) a f o = goes-by b nothing refl tt f o
+    performs b (takes d x) a f o = goes-by b reads refl tt f o
+    performs b (goes n) a f o = goes-by b nothing refl tt f o
     performs b (does x) a f o = has-run b x (runsOn j s b (kernel (ran b x ∷ h))) f o a (goes-or-not b x o)
     performs b (begins n) a f o = happens (began n) updatePhase a tt refl tt (λ r. (refl, begun))
 

@@ -9,7 +9,7 @@ use lib.Dec.{eqb, ltb, leb}
 use borrow.Author.Tests.{eqb-true, eq-eqb, ltb-true, lt-ltb, not-true, leb-true, leb-false}
 use Rattle.laws.specs.Choice.{if_then_else_, and-left, and-right}
 use Rattle.kernel.specs.Design.{Table, Body, main, thread, update, threads, updates}
-use Rattle.kernel.specs.Kernel.{Due, never, delta, at, earlier, Wait, free, on, till, Thread, waiting, standing, ending, suspending, asksBack, freeOn, freeTimed, Kernel, nothing, notifies, asks, waits, requests, suspends, resumes, Happening, ran, triggered, freed, resumed, ended, dispatched, finished, began, moved, quiet, limited, History, during, past, after, kernel}
+use Rattle.kernel.specs.Kernel.{Due, never, delta, at, earlier, Wait, free, on, till, Thread, waiting, standing, ending, suspending, asksBack, freeOn, freeTimed, Kernel, nothing, reads, notifies, asks, waits, requests, suspends, resumes, Happening, ran, triggered, freed, resumed, ended, dispatched, finished, began, moved, quiet, limited, History, during, past, after, kernel}
 use Rattle.kernel.specs.Pending.{runnable, isRequested, isFree}
 use Rattle.kernel.specs.Words.{like, since, requested, hasEnded, suspended, resuming, Clock, clock, triggers, Asked, asks-now, asks-yet, NotLater, Pends, endsWait, Waits, waits-now, waits-yet, Runnable, Requested}
 use Rattle.kernel.specs.Demand.{Might, Rightly}
@@ -36,6 +36,7 @@ Marks x i k s =
 marks : (x : Happening) (i : ℕ) (k : Kernel) → Marks x i k (after x k .threads i)
 unfolding after
 marks (ran c nothing) i k = (refl, (refl, refl, refl))
+marks (ran c reads) i k = (refl, (refl, refl, refl))
 marks (ran c (notifies n)) i k = (refl, (refl, refl, refl))
 marks (ran c (asks n d)) i k = (refl, (refl, refl, refl))
 marks (ran main (waits w)) i k = (refl, (refl, refl, refl))
@@ -125,6 +126,7 @@ kernel-clock : (h : History) → clockOf (kernel h) ≡ clock h
 unfolding kernel after clock
 kernel-clock [] = refl
 kernel-clock (ran c nothing ∷ h) = kernel-clock h
+kernel-clock (ran c reads ∷ h) = kernel-clock h
 kernel-clock (ran c (notifies n) ∷ h) = kernel-clock h
 kernel-clock (ran c (asks n d) ∷ h) = kernel-clock h
 kernel-clock (ran main (waits w) ∷ h) = kernel-clock h
@@ -172,6 +174,7 @@ pend-trigger e x p false q = pend-stays q
 pub pend-step : (x : Happening) (e : ℕ) (k : Kernel) → PendStep e x (k .pends e) (after x k .pends e)
 unfolding after
 pend-step (ran c nothing) e k = pend-stays refl
+pend-step (ran c reads) e k = pend-stays refl
 pend-step (ran c (notifies n)) e k = pend-trigger e (ran c (notifies n)) (k .pends e) (eqb e n) refl
 pend-step (ran c (asks n d)) e k = go (eqb e n) refl
   where
@@ -331,6 +334,7 @@ at-free i n (till d) false q = wait-stays q
 pub wait-step : (x : Happening) (i : ℕ) (k : Kernel) → WaitStep i x (k .threads i .wait) (after x k .threads i .wait)
 unfolding after
 wait-step (ran c nothing) i k = plain i (ran c nothing) (λ e. refl) refl _ _ refl
+wait-step (ran c reads) i k = plain i (ran c reads) (λ e. refl) refl _ _ refl
 wait-step (ran c (notifies n)) i k = at-trigger i (ran c (notifies n)) n (λ e. refl) refl (k .threads i .wait)
 wait-step (ran c (asks n d)) i k = plain i (ran c (asks n d)) (λ e. refl) refl _ _ refl
 wait-step (ran main (waits w)) i k = plain i (ran main (waits w)) (λ e. refl) refl _ _ refl

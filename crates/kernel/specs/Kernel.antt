@@ -51,9 +51,9 @@ pub record Kernel : Type 0 where
   pub limit : Found
   pub stage : Stage
 
--- what an instruction asks of the kernel
+-- what an instruction does to others than its own body: nothing; it takes the next input; or what it asks of the kernel
 pub data Deed : Type 0 where
-  nothing : Deed
+  nothing reads : Deed
   notifies : ℕ → Deed
   asks : ℕ → Due → Deed
   waits : Wait → Deed
@@ -141,6 +141,7 @@ freeTimed (till d) = free
 
 unfoldable pub after : Happening → Kernel → Kernel
 after (ran b nothing) k = k
+after (ran b reads) k = k
 -- "Notify at once drops what pends and triggers the event."
 after (ran b (notifies e)) k = triggering e k
 -- "The earlier one stays."

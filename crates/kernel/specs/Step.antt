@@ -7,7 +7,7 @@ use Rattle.laws.specs.Choice.{if_then_else_}
 use Rattle.frame.specs.Ops.{meaningOf}
 use Rattle.kernel.specs.Search.{Found, none, found, nth, any, first}
 use Rattle.kernel.specs.Design.{Table, Body, main, thread, update, threads, updates, number, lengthOf, instruction}
-use Rattle.kernel.specs.Kernel.{delta, at, Kernel, nothing, Happening, ran, ended, dispatched, finished, began, moved, quiet, limited, Stage, before, during, past, kernel}
+use Rattle.kernel.specs.Kernel.{delta, at, Kernel, nothing, reads, Happening, ran, ended, dispatched, finished, began, moved, quiet, limited, Stage, before, during, past, kernel}
 use Rattle.kernel.specs.Pending.{runnable, isRequested, leastTime, above, timesOf, served}
 use Rattle.kernel.specs.Effect.{View, Effect, stops, sets, takes, goes, does, begins, effect}
 use Rattle.kernel.specs.Machine.{Job, Control, running, updatePhase, deltaPhase, turn, evaluation, timePhase, over, Machine, State, Out, out, when_then_else_, given_orElse_take_, goTo, stored, placed, counted, chose, took}
@@ -49,7 +49,7 @@ module _ (j : Job) (s : State) where
   unfoldable pub perform : Body → Effect → Out
   perform b (stops n) = to (over n (number t b) (placeOf b))
   perform b (sets d x) = out (ran b nothing ∷ []) (stored d x (goesOn b (suc (placeOf b))))
-  perform b (takes d x) = out (ran b nothing ∷ []) (took (stored d x (goesOn b (suc (placeOf b)))))
+  perform b (takes d x) = out (ran b reads ∷ []) (took (stored d x (goesOn b (suc (placeOf b)))))
   perform b (goes p) = out (ran b nothing ∷ []) (goesOn b p)
   perform b (does x) = out (ran b x ∷ []) (goTo (runsOn b (kernel (ran b x ∷ s .history))) (goesOn b (suc (placeOf b))))
   perform b (begins l) = out (began l ∷ []) (goTo updatePhase (goesOn b (suc (placeOf b))))

@@ -7,7 +7,7 @@ use mathlib.Core.List.{[], _∷_}
 use lib.Dec.{eqb}
 use Rattle.kernel.specs.Search.{Found, none}
 use Rattle.kernel.specs.Design.{Table, Body, main, thread, update, threads, updates}
-use Rattle.kernel.specs.Kernel.{Due, never, delta, at, Wait, free, on, till, Deed, nothing, notifies, asks, waits, requests, suspends, resumes, Happening, ran, triggered, freed, resumed, ended, dispatched, finished, began, moved, quiet, limited, History, Stage, before, during, past}
+use Rattle.kernel.specs.Kernel.{Due, never, delta, at, Wait, free, on, till, Deed, nothing, reads, notifies, asks, waits, requests, suspends, resumes, Happening, ran, triggered, freed, resumed, ended, dispatched, finished, began, moved, quiet, limited, History, Stage, before, during, past}
 
 -- a happening's kind and number
 abbrev pub sign : Happening → ℕ × ℕ
@@ -28,6 +28,7 @@ sign (began l) = (13, 0)
 sign (moved t) = (14, t)
 sign quiet = (15, 0)
 sign limited = (16, 0)
+sign (ran b reads) = (17, 0)
 
 -- x is y, whoever ran it
 abbrev pub like : Happening → Happening → Bool

@@ -12,7 +12,7 @@ use Rattle.frame.specs.Fields.{fields}
 use Rattle.frame.specs.Ops.{Meaning, takesImm, takesInput, one, two, may, load, store, goto, gotoIf, holds, waitEvent, waitTime, notify, notifyAfter, request, suspend, resume, startLimit, start, unknown, meaningOf}
 use Rattle.kernel.specs.Search.{none}
 use Rattle.kernel.specs.Design.{main}
-use Rattle.kernel.specs.Kernel.{Deed, nothing, notifies, asks, waits, requests, suspends, resumes, kernel}
+use Rattle.kernel.specs.Kernel.{Deed, nothing, reads, notifies, asks, waits, requests, suspends, resumes, kernel}
 use Rattle.kernel.specs.Effect.{View, Effect, stops, sets, takes, goes, does, begins, effect}
 use Rattle.plain.specs.declared.Eff.{Eff}
 use Rattle.plain.specs.declared.Eff.the-variants.{Put, Next, Go, Stop, Leave}
@@ -51,6 +51,7 @@ seen place cells =
 -- the code's answer for what an instruction at a place comes to
 abbrev pub afterDeed : (place : ℕ) → Deed → Eff
 afterDeed place nothing = Go (place + 1)
+afterDeed place reads = Leave
 afterDeed place (notifies e) = Leave
 afterDeed place (asks e d) = Leave
 afterDeed place (waits w) = Leave

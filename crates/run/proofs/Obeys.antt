@@ -17,7 +17,7 @@ use Rattle.image.specs.Layout.{frame, counts, bodies, len, first}
 use Rattle.image.specs.Judge.{judged}
 use Rattle.kernel.specs.Search.{Found, none, found, nth, edit, sum}
 use Rattle.kernel.specs.Design.{Table, Body, main, thread, update, threads, events, updates, number}
-use Rattle.kernel.specs.Kernel.{Due, never, delta, at, earlier, afterDelay, Wait, on, till, Thread, suspending, asksBack, Kernel, Deed, nothing, notifies, asks, waits, requests, suspends, resumes, ran, began, Stage, before, during, past, after, kernel}
+use Rattle.kernel.specs.Kernel.{Due, never, delta, at, earlier, afterDelay, Wait, on, till, Thread, suspending, asksBack, Kernel, Deed, nothing, reads, notifies, asks, waits, requests, suspends, resumes, ran, began, Stage, before, during, past, after, kernel}
 use Rattle.kernel.specs.Pending.{isFree, dueOf, isTime, timesOf}
 use Rattle.kernel.specs.Effect.{View, Effect, stops, sets, takes, goes, does, begins, stopIf, takesTo, startsIn, mainPast, isNever, asksFor, effect}
 use Rattle.kernel.specs.Machine.{Job, Control as Place, running, updatePhase, evaluation, over, Machine, State, out}
@@ -49,6 +49,7 @@ false-true e =
 ran-numbers : {A : Type 0} (f : Kernel → A) → ((c k : Kernel) → c .now ≡ k .now → c .limit ≡ k .limit → c .stage ≡ k .stage → f c ≡ f k) → (b : Body) (x : Deed) (k : Kernel) → f (after (ran b x) k) ≡ f k
 unfolding after
 ran-numbers f h b nothing k = refl
+ran-numbers f h b reads k = refl
 ran-numbers f h b (notifies e) k = h _ k refl refl refl
 ran-numbers f h b (asks e d) k = h _ k refl refl refl
 ran-numbers f h main (waits w) k = refl
