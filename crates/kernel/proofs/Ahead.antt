@@ -1,22 +1,22 @@
 -- What an instruction asks for lies ahead of now, and a start is made only before the phase; so what stands due lies ahead.
 use Prim.Native.Nat.{ℕ, zero, suc, _<_}
-use mathlib.Core.Path.{_≡_, refl, subst}
-use mathlib.Core.Bool.{Bool, true, false, _&&_}
+use mathlib.Core.Path.{_≡_, refl, sym, subst}
+use mathlib.Core.Bool.{Bool, true, false}
 use mathlib.Core.Logic.{_⊎_, inl, inr}
 use mathlib.Core.List.{_∷_}
 use native.Mathlib.Omega.{arith}
-use lib.Dec.{ltb, eqb, leb}
+use lib.Dec.{eqb, leb}
 use lib.ListN.{getD}
 use Rattle.word.specs.Word.{Result, value, stop}
 use Rattle.frame.specs.declared.Frame.{Frame}
 use Rattle.frame.specs.Ops.{Meaning, takesImm, takesInput, one, two, may, load, store, goto, gotoIf, holds, waitEvent, waitTime, notify, notifyAfter, request, suspend, resume as resumeOp, startLimit, start, unknown}
 use Rattle.kernel.specs.Search.{Found, none, found}
-use Rattle.kernel.specs.Design.{Table}
+use Rattle.kernel.specs.Design.{Table, Body, main}
 use Rattle.kernel.specs.Kernel.{Due, never, delta, at, earlier, afterDelay, Wait, till, Deed, nothing, reads, notifies, asks, waits, requests, suspends, resumes, Happening, ran, triggered, freed, resumed, ended, dispatched, finished, began, moved, quiet, limited, History, Stage, before, during, past, after, kernel}
 use Rattle.kernel.specs.Pending.{dueOf, resumeDue}
 use Rattle.kernel.specs.Effect.{View, Effect, stops, sets, takes, goes, does, begins, stopIf, setsTo, takesTo, goesIf, startsIn, mainPast, isNever, asksFor, effect}
-use Rattle.kernel.specs.Words.{clock}
-use Rattle.kernel.specs.Demand.{Work, event, wait, resume, Within}
+use Rattle.kernel.specs.Words.{alike, clock, Work, event, wait, resume, Within}
+use Rattle.kernel.proofs.Asking.{asks-or-stops}
 use Rattle.kernel.proofs.Words.{PendStep, pend-drops, pend-adds, pend-stays, pend-step, earlier-pick, WaitStep, wait-begins, wait-ends, wait-stays, wait-step}
 use Rattle.kernel.proofs.Due.{dueIn}
 
@@ -35,14 +35,14 @@ AheadDeed n (requests u) = Unit {0}
 AheadDeed n (suspends i) = Unit {0}
 AheadDeed n (resumes i) = Unit {0}
 
--- what an instruction may come to at time n and in stage s ---------------------------------------------------------
+-- what an instruction may come to at time n and in stage s; an input is taken, and not asked for of the kernel ---------------------------------------------------------
 
 abbrev pub Allowed : ℕ → Stage → Effect → Type 0
 Allowed n s (stops m) = Unit {0}
 Allowed n s (sets d x) = Unit {0}
 Allowed n s (takes d x) = Unit {0}
 Allowed n s (goes p) = Unit {0}
-Allowed n s (does x) = AheadDeed n x
+Allowed n s (does x) = (AheadDeed n x) × ((b : Body) → alike (ran main reads) (ran b x) ≡ false)
 Allowed n s (begins l) = s ≡ before
 
 module _ (n : ℕ) (s : Stage) where
@@ -50,10 +50,12 @@ module _ (n : ℕ) (s : Stage) where
   by-stop true m x h = tt
   by-stop false m x h = h
 
-  by-asks : (a : Bool) (m : ℕ) (d : Due) (x : Deed) → AheadDeed n x → Allowed n s (asksFor a m d x)
-  by-asks a m never x h = h
-  by-asks a m delta x h = h
-  by-asks a m (at t) x h = by-stop (ltb 4294967295 t) 17 (stopIf (a && leb 48 m) 23 (does x)) (by-stop (a && leb 48 m) 23 (does x) h)
+  by-asks : (a : Bool) (m : ℕ) (d : Due) (x : Deed) → Allowed n s (does x) → Allowed n s (asksFor a m d x)
+  by-asks a m d x h = go (asks-or-stops a m d x)
+    where
+      go : (asksFor a m d x ≡ does x) ⊎ ((v : ℕ) × (asksFor a m d x ≡ stops v)) → Allowed n s (asksFor a m d x)
+      go (inl e) = subst (Allowed n s) (sym e) h
+      go (inr w) = subst (Allowed n s) (sym (w .1)) tt
 
   by-sets : (d : ℕ) (r : Result) → Allowed n s (setsTo d r)
   by-sets d (value x) = tt
@@ -100,15 +102,15 @@ module _ (v : View) (i : Frame) where
   allowed store = by-stop N S (leb (i .b) A) 16 _ tt
   allowed goto = tt
   allowed gotoIf = by-goes N S A (i .imm) (suc (v .place))
-  allowed (holds n) = by-stop N S (eqb A 0) n (does nothing) tt
-  allowed waitEvent = tt
-  allowed waitTime = by-asks N S true (v .times) (afterDelay N A) (waits (till (afterDelay N A))) (ahead-delay N A)
-  allowed notify = by-stop N S late 18 (does (notifies (i .d))) tt
+  allowed (holds n) = by-stop N S (eqb A 0) n (does nothing) (tt, λ b. refl)
+  allowed waitEvent = (tt, λ b. refl)
+  allowed waitTime = by-asks N S true (v .times) (afterDelay N A) (waits (till (afterDelay N A))) (ahead-delay N A, λ b. refl)
+  allowed notify = by-stop N S late 18 (does (notifies (i .d))) (tt, λ b. refl)
   allowed notifyAfter =
-      by-stop N S late 18 _ (by-asks N S (isNever (v .kernel .pends (i .d))) (v .times) (afterDelay N A) (asks (i .d) (afterDelay N A)) (ahead-delay N A))
-  allowed request = by-stop N S late 18 (does (requests (i .d))) tt
-  allowed suspend = by-stop N S late 18 (does (suspends (i .d))) tt
-  allowed resumeOp = by-stop N S late 18 (does (resumes (i .d))) tt
+      by-stop N S late 18 _ (by-asks N S (isNever (v .kernel .pends (i .d))) (v .times) (afterDelay N A) (asks (i .d) (afterDelay N A)) (ahead-delay N A, λ b. refl))
+  allowed request = by-stop N S late 18 (does (requests (i .d))) (tt, λ b. refl)
+  allowed suspend = by-stop N S late 18 (does (suspends (i .d))) (tt, λ b. refl)
+  allowed resumeOp = by-stop N S late 18 (does (resumes (i .d))) (tt, λ b. refl)
   allowed startLimit = by-starts N S (found (i .imm))
   allowed start = by-starts N S none
   allowed unknown = tt

@@ -14,11 +14,11 @@ use Rattle.kernel.specs.Kernel.{delta, Kernel, Deed, nothing, reads, Hap
 use Rattle.kernel.specs.Pending.{runnable}
 use Rattle.kernel.specs.Effect.{Effect, stops, sets, takes, goes, does, begins}
 use Rattle.kernel.specs.Machine.{Job, Control, running, updatePhase, deltaPhase, turn, evaluation, timePhase, over, Machine, State, Out, out, goTo}
-use Rattle.kernel.specs.Step.{runsOn, perform, stepFrom, step}
+use Rattle.kernel.specs.Step.{effectOf, runsOn, perform, stepFrom, step}
 use Rattle.kernel.proofs.Search.{nth-some}
 use Rattle.kernel.proofs.Measure.{load, load-le, load-ran, load-ended, load-finished, load-served, load-moved}
 use Rattle.kernel.proofs.Branch as B
-use Rattle.kernel.proofs.Branch.{Branch, branch, effectOf}
+use Rattle.kernel.proofs.Branch.{Branch, branch}
 use Rattle.kernel.proofs.Fits.{Fits}
 
 -- instructions and choices left

@@ -2,71 +2,49 @@
 use Prim.Native.Nat.{ℕ}
 use mathlib.Core.Path.{_≡_, refl}
 use mathlib.Core.Bool.{Bool, true, false}
-use mathlib.Core.List.{[], _∷_, _++_}
-use lib.Dec.{ltb}
-use Rattle.frame.specs.declared.Frame.{Frame}
-use Rattle.frame.specs.Ops.{meaningOf}
-use Rattle.kernel.specs.Search.{Found, none, found, nth, any, first}
-use Rattle.kernel.specs.Design.{Table, Body, main, thread, update, threads, updates, number, lengthOf, instruction}
-use Rattle.kernel.specs.Kernel.{delta, at, Kernel, ended, dispatched, finished, moved, quiet, limited, kernel}
+use mathlib.Core.List.{[], _∷_}
+use Rattle.kernel.specs.Search.{Found, none, found, nth, first}
+use Rattle.kernel.specs.Design.{Table, Body, main, thread, update, updates}
+use Rattle.kernel.specs.Kernel.{delta, Kernel, ended, finished, quiet, limited, kernel}
 use Rattle.kernel.specs.Pending.{runnable, isRequested, leastTime, above, served}
-use Rattle.kernel.specs.Effect.{Effect, stops, effect}
-use Rattle.kernel.specs.Machine.{Job, Control, running, updatePhase, deltaPhase, turn, evaluation, timePhase, over, Machine, State, Out, out, when_then_else_, given_orElse_take_, goTo, placed, chose}
-use Rattle.kernel.specs.Step.{perform, view, obey, phaseNumber, atEnd, stepFrom}
+use Rattle.kernel.specs.Effect.{stops}
+use Rattle.kernel.specs.Machine.{Job, Control, running, updatePhase, deltaPhase, turn, evaluation, timePhase, over, State, Out, out, when_then_else_, given_orElse_take_, goTo}
+use Rattle.kernel.specs.Step.{to, ends, due, paid, perform, effectOf, phaseNumber, atEnd, someRunnable, dispatch, enter, closes, timeNext, moveTo, stepFrom}
 
 module _ (j : Job) (s : State) where
   abbrev t : Table
   t = j .table
 
-  abbrev m : Machine
-  m = s .machine
-
   abbrev k : Kernel
   k = kernel (s .history)
 
-  abbrev to : Control → Out
-  to c = out [] (goTo c m)
-
-  -- an instruction of b is due; the budget lets it run; some thread is runnable
-  abbrev pub due : Body → Bool
-  due b = ltb (m .places (number t b)) (lengthOf t (number t b))
-
-  abbrev pub paid : Bool
-  paid = ltb (m .instructions) (j .budget)
-
-  abbrev pub someRunnable : Bool
-  someRunnable = any (runnable t k) (threads t)
-
-  -- what the instruction of b comes to
-  abbrev pub effectOf : Body → Effect
-  effectOf b =
-      let i : Frame = instruction t (number t b) (m .places (number t b)) in
-      effect (view j s b) i (meaningOf (i .op))
+  abbrev choice : Found
+  choice = nth (j .choices) (s .machine .choices)
 
   pub data Branch : Control → Out → Type 0 where
     -- a body runs
-    obeys : (b : Body) → due b ≡ true → paid ≡ true → Branch (running b) (perform j s b (effectOf b))
-    unpaid : (b : Body) → due b ≡ true → paid ≡ false → Branch (running b) (perform j s b (stops 22))
-    main-ends : due main ≡ false → Branch (running main) (to (over (phaseNumber j s (k .stage)) 0xff 0))
-    thread-ends : (i : ℕ) → due (thread i) ≡ false → Branch (running (thread i)) (out (ended i ∷ []) (goTo evaluation m))
-    update-ends : (u : ℕ) → due (update u) ≡ false → Branch (running (update u)) (out (finished u ∷ []) (goTo updatePhase m))
+    obeys : (b : Body) → due j s b ≡ true → paid j s ≡ true → Branch (running b) (perform j s b (effectOf j s b))
+    unpaid : (b : Body) → due j s b ≡ true → paid j s ≡ false → Branch (running b) (perform j s b (stops 22))
+    main-ends : due j s main ≡ false → Branch (running main) (ends j s (phaseNumber j s (k .stage)))
+    thread-ends : (i : ℕ) → due j s (thread i) ≡ false → Branch (running (thread i)) (out (ended i ∷ []) (goTo evaluation (s .machine)))
+    update-ends : (u : ℕ) → due j s (update u) ≡ false → Branch (running (update u)) (out (finished u ∷ []) (goTo updatePhase (s .machine)))
     -- evaluation
-    idles : someRunnable ≡ false → Branch evaluation (to updatePhase)
-    unchosen : someRunnable ≡ true → nth (j .choices) (m .choices) ≡ none → Branch evaluation (to (over 20 0xff 0))
-    refuses : (c : ℕ) → someRunnable ≡ true → nth (j .choices) (m .choices) ≡ found c → runnable t k c ≡ false → Branch evaluation (to (over 21 0xff 0))
-    dispatches : (c : ℕ) → someRunnable ≡ true → nth (j .choices) (m .choices) ≡ found c → runnable t k c ≡ true → Branch evaluation (out (dispatched c ∷ []) (goTo (running (thread c)) (chose m)))
+    idles : someRunnable j s ≡ false → Branch evaluation (to j s updatePhase)
+    unchosen : someRunnable j s ≡ true → choice ≡ none → Branch evaluation (ends j s 20)
+    refuses : (c : ℕ) → someRunnable j s ≡ true → choice ≡ found c → runnable t k c ≡ false → Branch evaluation (ends j s 21)
+    dispatches : (c : ℕ) → someRunnable j s ≡ true → choice ≡ found c → runnable t k c ≡ true → Branch evaluation (dispatch j s c)
     -- the update phase, the delta phase, and the turn to evaluation or time
-    updated : first (isRequested t k) (updates t) ≡ none → Branch updatePhase (to deltaPhase)
-    enters : (u : ℕ) → first (isRequested t k) (updates t) ≡ found u → Branch updatePhase (out [] (goTo (running (update u)) (placed (number t (update u)) 0 m)))
-    serves : Branch deltaPhase (out (served t k delta) (goTo turn m))
-    turns : someRunnable ≡ true → Branch turn (to evaluation)
-    waits : someRunnable ≡ false → Branch turn (to timePhase)
+    updated : first (isRequested t k) (updates t) ≡ none → Branch updatePhase (to j s deltaPhase)
+    enters : (u : ℕ) → first (isRequested t k) (updates t) ≡ found u → Branch updatePhase (enter j s u)
+    serves : Branch deltaPhase (out (served t k delta) (goTo turn (s .machine)))
+    turns : someRunnable j s ≡ true → Branch turn (to j s evaluation)
+    waits : someRunnable j s ≡ false → Branch turn (timeNext j s)
     -- time
-    quiets : leastTime t k ≡ none → Branch timePhase (out (quiet ∷ []) (goTo (running main) m))
-    limits : (d : ℕ) → leastTime t k ≡ found d → above d (k .limit) ≡ true → Branch timePhase (out (limited ∷ []) (goTo (running main) m))
-    moves : (d : ℕ) → leastTime t k ≡ found d → above d (k .limit) ≡ false → Branch timePhase (out (served t k (at d) ++ (moved d ∷ [])) (goTo turn m))
+    quiets : leastTime t k ≡ none → Branch timePhase (closes j s quiet)
+    limits : (d : ℕ) → leastTime t k ≡ found d → above d (k .limit) ≡ true → Branch timePhase (closes j s limited)
+    moves : (d : ℕ) → leastTime t k ≡ found d → above d (k .limit) ≡ false → Branch timePhase (moveTo j s d)
     -- over
-    rests : (n b p : ℕ) → Branch (over n b p) (to (over n b p))
+    rests : (n b p : ℕ) → Branch (over n b p) (to j s (over n b p))
 
   by-when : (c : Control) (b : Bool) (x y : Out) → (b ≡ true → Branch c x) → (b ≡ false → Branch c y) → Branch c (when b then x else y)
   unfolding when_then_else_
@@ -78,14 +56,14 @@ module _ (j : Job) (s : State) where
   by-given c none x g p q = p refl
   by-given c (found n) x g p q = q n refl
 
-  at-end : (b : Body) → due b ≡ false → Branch (running b) (atEnd j s b)
+  at-end : (b : Body) → due j s b ≡ false → Branch (running b) (atEnd j s b)
   unfolding atEnd
   at-end main q = main-ends q
   at-end (thread i) q = thread-ends i q
   at-end (update u) q = update-ends u q
 
   pub branch : (c : Control) → Branch c (stepFrom j s c)
-  unfolding stepFrom obey
+  unfolding stepFrom
   branch (running b) = by-when (running b) _ _ _ (λ p. by-when (running b) _ _ _ (obeys b p) (unpaid b p)) (at-end b)
   branch evaluation =
       by-when evaluation _ _ _

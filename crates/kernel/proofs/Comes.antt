@@ -9,10 +9,10 @@ use Rattle.kernel.specs.Design.{Table, main, thread, update, threads, ev
 use Rattle.kernel.specs.Kernel.{Due, never, delta, at, Kernel, triggered, freed, resumed, History, kernel}
 use Rattle.kernel.specs.Pending.{dueOf, runnable, isRequested, resumeDue, sameDue, served}
 use Rattle.kernel.specs.Machine.{Job, Control, running, updatePhase, deltaPhase, turn, evaluation, timePhase, over, Machine, State, out, goTo}
-use Rattle.kernel.specs.Step.{advance, step, steps}
-use Rattle.kernel.specs.Demand.{event, wait, resume, Still, Rightly, InPhase}
+use Rattle.kernel.specs.Step.{someRunnable, advance, step, steps}
+use Rattle.kernel.specs.Words.{event, wait, resume, Still}
+use Rattle.kernel.specs.Demand.{Rightly, InPhase}
 use Rattle.kernel.proofs.Search.{any-all, first-all}
-use Rattle.kernel.proofs.Branch.{someRunnable}
 use Rattle.kernel.proofs.Laws.{step-idles, step-updated, step-serves, step-waits}
 use Rattle.kernel.proofs.Fits.{Fits}
 use Rattle.kernel.proofs.Words.{runs-runnable, wants-requested}

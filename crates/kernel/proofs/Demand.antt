@@ -2,27 +2,31 @@
 use Prim.Native.Nat.{ℕ, suc}
 use mathlib.Core.Path.{_≡_, refl, ap, _∙_, sym, subst}
 use mathlib.Core.Bool.{Bool, true, false, true≢false}
-use mathlib.Core.List.{_∷_}
+use mathlib.Core.Logic.{_⊎_, inl, inr}
+use mathlib.Core.List.{[], _∷_, _++_, append-assoc}
 use native.Mathlib.Omega.{arith}
 use lib.ListN.{length}
 use borrow.Author.Tests.{lt-ltb}
 use Rattle.kernel.specs.Search.{Found, none, found, nth}
 use Rattle.kernel.specs.Design.{Table, threads}
-use Rattle.kernel.specs.Kernel.{at, on, Kernel, Happening, dispatched, quiet, limited, History, kernel}
-use Rattle.kernel.specs.Pending.{runnable, above}
-use Rattle.kernel.specs.Machine.{Job, turn, evaluation, timePhase, over, State, Out, init}
-use Rattle.kernel.specs.Step.{advance, stepFrom, step, steps}
-use Rattle.kernel.specs.Words.{clock, Runnable}
-use Rattle.kernel.specs.Demand.{Still, Nothing, Earliest, Above, Might, Rightly, InPhase, Time, SomeRunnable, Chooses, Comes, Demand}
-use Rattle.kernel.proofs.Search.{any-none, any-some}
+use Rattle.kernel.specs.Kernel.{delta, at, on, till, Kernel, Happening, dispatched, moved, quiet, limited, History, kernel}
+use Rattle.kernel.specs.Pending.{runnable, above, served}
+use Rattle.kernel.specs.Machine.{Job, Control, deltaPhase, turn, evaluation, timePhase, over, State, Out, init}
+use Rattle.kernel.specs.Step.{someRunnable, advance, stepFrom, step, steps}
+use Rattle.kernel.specs.Words.{sign, Among, newest, clock, Runnable, Work, event, wait, resume, serves, Still, Nothing, Earliest, Above, accepted}
+use Rattle.kernel.specs.Demand.{Might, Rightly, InPhase, added, Serves, Time, choice, SomeRunnable, Chooses, Comes, Kept, Demand}
+use Rattle.kernel.proofs.Search.{any-none}
 use Rattle.kernel.proofs.Branch as B
-use Rattle.kernel.proofs.Branch.{Branch, branch, someRunnable}
-use Rattle.kernel.proofs.Laws.{steps-last, step-by, step-unchosen, step-refuses, step-dispatches, step-quiets, step-limits}
+use Rattle.kernel.proofs.Branch.{Branch, branch}
+use Rattle.kernel.proofs.Laws.{steps-last, from-branch, step-by, step-unchosen, step-refuses, step-dispatches, step-quiets, step-limits}
 use Rattle.kernel.proofs.Words.{pends, pends-one, on-waits, waits-on, runs-runnable, runnable-runs, limit-now}
-use Rattle.kernel.proofs.Due.{Pending, at-never, stands-pending, pending-stands, due-none, due-found}
+use Rattle.kernel.proofs.Due.{Pending, delta-never, at-never, stands-pending, pending-stands, due-none, due-found}
 use Rattle.kernel.proofs.Ahead.{Ahead}
-use Rattle.kernel.proofs.Rightly.{Standing, Inv, inv-step, inv-steps, inv-init}
+use Rattle.kernel.proofs.Rightly.{Standing, above-true, some-runnable, Inv, inv-step, inv-steps, inv-init}
 use Rattle.kernel.proofs.Comes.{not-true, ComesToTime, come}
+use Rattle.kernel.proofs.Moments.{moment-since, rightly-at, time-forth, frees-at}
+use Rattle.kernel.proofs.Serves.{among-left, among-right, among-split, among-one, among-served, serves-due}
+use Rattle.kernel.proofs.Told.{tells, told-of, why-of, answered-run}
 
 -- no history is its own beginning
 grows : (x : Happening) (h : History) → h ≡ x ∷ h → ⊥
@@ -31,6 +35,21 @@ grows x h q = let e : length h ≡ suc (length h) = ap length q in omega arith
 above-is : (d : ℕ) (f : Found) → Above d f → above d f ≡ true
 above-is d none a = absurd a
 above-is d (found l) a = lt-ltb l d a
+
+above-not : (d : ℕ) (f : Found) → (Above d f → ⊥) → above d f ≡ false
+above-not d f n = not-true (above d f) (λ q. n (above-true d f q))
+
+-- an end of the phase is no move of time, and no work is one
+quiet-moves : (d : ℕ) → moved d ≡ quiet → ⊥
+quiet-moves d e = let z : _≡_ {A = ℕ} 14 15 = ap (λ (x : Happening). sign x .0) e in omega arith
+
+limit-moves : (d : ℕ) → moved d ≡ limited → ⊥
+limit-moves d e = let z : _≡_ {A = ℕ} 14 16 = ap (λ (x : Happening). sign x .0) e in omega arith
+
+no-work : (d : ℕ) (x : Work) → moved d ≡ serves x → ⊥
+no-work d (event i) e = let z : _≡_ {A = ℕ} 14 7 = ap (λ (x : Happening). sign x .0) e in omega arith
+no-work d (wait i) e = let z : _≡_ {A = ℕ} 14 8 = ap (λ (x : Happening). sign x .0) e in omega arith
+no-work d (resume i) e = let z : _≡_ {A = ℕ} 14 9 = ap (λ (x : Happening). sign x .0) e in omega arith
 
 module _ (j : Job) (s : State) (i : Inv j s) where
   abbrev t : Table
@@ -58,15 +77,59 @@ module _ (j : Job) (s : State) (i : Inv j s) where
         (due-found t k d (stands-pending t h (at d) right (n .due)) (λ u w. n .first u (pending-stands t h (at u) (at-never u) w)))
         (above-is d (k .limit) (rw (limit-now h) a)))
 
+    abbrev moveTo : ℕ → History
+    moveTo d = served t k (at d) ++ (moved d ∷ [])
+
+    adds : added j s ≡ stepFrom j s timePhase .happens
+    adds = ap (λ (c : Control). stepFrom j s c .happens) e
+
+    to-moved : (d : ℕ) → Earliest t h d → (Above d (clock h .limit) → ⊥) → added j s ≡ moveTo d
+    to-moved d n a =
+        adds ∙ ap (λ (o : Out). o .happens) (from-branch j s timePhase _ (B.moves d
+        (due-found t k d (stands-pending t h (at d) right (n .due)) (λ u w. n .first u (pending-stands t h (at u) (at-never u) w)))
+        (above-not d (k .limit) (λ w. a (rw (← limit-now h) w)))))
+
+    -- only a move adds a move
+    was-moved : (d : ℕ) (o : Out) → Branch j s timePhase o → Among (moved d) (o .happens) → o .happens ≡ moveTo d
+    was-moved d o (B.quiets q) y = absurd (quiet-moves d (among-one (moved d) quiet y))
+    was-moved d o (B.limits v p q) y = absurd (limit-moves d (among-one (moved d) limited y))
+    was-moved d o (B.moves v p q) y = go (among-split (moved d) (served t k (at v)) (moved v ∷ []) y)
+      where
+        go : Among (moved d) (served t k (at v)) ⊎ Among (moved d) (moved v ∷ []) → moveTo v ≡ moveTo d
+        go (inl a) = let w = among-served t k (at v) (moved d) a in absurd (no-work d (w .0) (w .3))
+        go (inr a) = let z : d ≡ v = ap (λ (x : Happening). sign x .1) (among-one (moved d) (moved v) a) in rw z
+
+    moved-as : (d : ℕ) → Among (moved d) (added j s) → added j s ≡ moveTo d
+    moved-as d y = adds ∙ was-moved d (stepFrom j s timePhase) (branch j s timePhase) (subst (Among (moved d)) adds y)
+
+    moved-might : (d : ℕ) → Among (moved d) (added j s) → Might t h (moved d)
+    unfolding step
+    moved-might d y =
+        let r : Rightly t (served t k (at d) ++ (moved d ∷ h)) = subst (Rightly t) (ap (λ (x : History). x ++ h) (moved-as d y) ∙ append-assoc (served t k (at d)) (moved d ∷ []) h) (inv-step j s i .sound .rightly) in
+        rightly-at t (moved d ∷ h) (served t k (at d) ++ (moved d ∷ h)) (moment-since (served t k (at d)) (moved d ∷ h)) r .1
+
+    serves-at : (d : ℕ) → Among (moved d) (added j s) → Serves j s (at d)
+    serves-at d y x =
+        let a : added j s ≡ moveTo d = moved-as d y in
+        let w = serves-due t h (at d) (at-never d) right x in
+        ((λ v. subst (Among (serves x)) (sym a) (among-left (serves x) (served t k (at d)) (moved d ∷ []) (w .0 v))), (λ z. w .1 (go (among-split (serves x) (served t k (at d)) (moved d ∷ []) (subst (Among (serves x)) a z)))))
+      where
+        go : Among (serves x) (served t k (at d)) ⊎ Among (serves x) (moved d ∷ []) → Among (serves x) (served t k (at d))
+        go (inl z) = z
+        go (inr z) = absurd (no-work d x (sym (among-one (serves x) (moved d) z)))
+
     time-of : Time j s
     time-of = record {
       ends-quiet = (to-quiet, happened quiet);
       ends-limited = ((λ w. to-limited (w .0) (w .1) (w .2)), happened limited);
+      moves = λ d. ((λ w. subst (Among (moved d)) (sym (to-moved d (w .0) (w .1))) (among-right (moved d) (served t k (at d)) (moved d ∷ []) newest)), moved-might d);
+      serves-then = serves-at;
     }
 
-  module _ (e : s .machine .control ≡ evaluation) where
-    abbrev choice : Found
-    choice = nth (j .choices) (s .machine .choices)
+  module _ (e : s .machine .control ≡ evaluation) (c : s .machine .choices ≡ accepted h) where
+    -- the machine's next choice is the history's
+    same : nth (j .choices) (s .machine .choices) ≡ choice j h
+    same = ap (nth (j .choices)) c
 
     some : SomeRunnable t h → someRunnable j s ≡ true
     some w = go (someRunnable j s) refl
@@ -75,26 +138,23 @@ module _ (j : Job) (s : State) (i : Inv j s) where
         go true q = q
         go false q = absurd (true≢false (sym (runnable-runs t h (w .0) (w .1)) ∙ any-none (runnable t k) (threads t) q (w .0) (w .1 .there)))
 
-    some-back : someRunnable j s ≡ true → SomeRunnable t h
-    some-back q = let w = any-some (runnable t k) (threads t) q in (w .0, runs-runnable t h (w .0) right (w .2))
-
     -- what the step came to tells which branch it took
-    was-dispatched : (c : ℕ) (o : Out) → Branch j s evaluation o → advance s o .history ≡ dispatched c ∷ h → choice ≡ found c
+    was-dispatched : (c : ℕ) (o : Out) → Branch j s evaluation o → advance s o .history ≡ dispatched c ∷ h → choice j h ≡ found c
     was-dispatched c o (B.idles q) z = absurd (grows (dispatched c) h z)
     was-dispatched c o (B.unchosen p q) z = absurd (grows (dispatched c) h z)
     was-dispatched c o (B.refuses d p q r) z = absurd (grows (dispatched c) h z)
-    was-dispatched c o (B.dispatches d p q r) z = let y : d ≡ c = cc in q ∙ ap found y
+    was-dispatched c o (B.dispatches d p q r) z = let y : d ≡ c = cc in sym same ∙ q ∙ ap found y
 
-    was-20 : (o : Out) → Branch j s evaluation o → o .next .control ≡ over 20 0xff 0 → (choice ≡ none) × (SomeRunnable t h)
+    was-20 : (o : Out) → Branch j s evaluation o → o .next .control ≡ over 20 0xff 0 → (choice j h ≡ none) × (SomeRunnable t h)
     was-20 o (B.idles q) z = let y : _≡_ {A = ℕ} 0 1 = cc in absurd (omega arith)
-    was-20 o (B.unchosen p q) z = (q, some-back p)
+    was-20 o (B.unchosen p q) z = (sym same ∙ q, some-runnable j s right p)
     was-20 o (B.refuses d p q r) z = let y : _≡_ {A = ℕ} 20 21 = cc in absurd (omega arith)
     was-20 o (B.dispatches d p q r) z = let y : _≡_ {A = ℕ} 0 1 = cc in absurd (omega arith)
 
-    was-21 : (o : Out) → Branch j s evaluation o → o .next .control ≡ over 21 0xff 0 → (c : ℕ) × (choice ≡ found c) × (Runnable t h c → ⊥) × (SomeRunnable t h)
+    was-21 : (o : Out) → Branch j s evaluation o → o .next .control ≡ over 21 0xff 0 → (c : ℕ) × (choice j h ≡ found c) × (Runnable t h c → ⊥) × (SomeRunnable t h)
     was-21 o (B.idles q) z = let y : _≡_ {A = ℕ} 0 1 = cc in absurd (omega arith)
     was-21 o (B.unchosen p q) z = let y : _≡_ {A = ℕ} 20 21 = cc in absurd (omega arith)
-    was-21 o (B.refuses d p q r) z = (d, q, (λ y. true≢false (sym (runnable-runs t h d y) ∙ r)), some-back p)
+    was-21 o (B.refuses d p q r) z = (d, sym same ∙ q, (λ y. true≢false (sym (runnable-runs t h d y) ∙ r)), some-runnable j s right p)
     was-21 o (B.dispatches d p q r) z = let y : _≡_ {A = ℕ} 0 1 = cc in absurd (omega arith)
 
     stepped : step j s ≡ advance s (stepFrom j s evaluation)
@@ -103,15 +163,15 @@ module _ (j : Job) (s : State) (i : Inv j s) where
     chooses-of : Chooses j s
     chooses-of = record {
       accepts = λ c. (
-        (λ w. ap (λ (x : State). x .history) (step-dispatches j s c e (some (c, w .1)) (w .0) (runnable-runs t h c (w .1)))),
+        (λ w. ap (λ (x : State). x .history) (step-dispatches j s c e (some (c, w .1)) (same ∙ w .0) (runnable-runs t h c (w .1)))),
         (λ q. (was-dispatched c (stepFrom j s evaluation) (branch j s evaluation) (sym (ap (λ (x : State). x .history) stepped) ∙ q), happened (dispatched c) q .0)),
       );
       used-up = (
-        (λ w. ap (λ (x : State). x .machine .control) (step-unchosen j s e (some (w .1)) (w .0))),
+        (λ w. ap (λ (x : State). x .machine .control) (step-unchosen j s e (some (w .1)) (same ∙ w .0))),
         (λ q. was-20 (stepFrom j s evaluation) (branch j s evaluation) (sym (ap (λ (x : State). x .machine .control) stepped) ∙ q)),
       );
       refused = (
-        (λ w. ap (λ (x : State). x .machine .control) (step-refuses j s (w .0) e (some (w .3)) (w .1) (not-true (runnable t k (w .0)) (λ q. w .2 (runs-runnable t h (w .0) right q))))),
+        (λ w. ap (λ (x : State). x .machine .control) (step-refuses j s (w .0) e (some (w .3)) (same ∙ w .1) (not-true (runnable t k (w .0)) (λ q. w .2 (runs-runnable t h (w .0) right q))))),
         (λ q. was-21 (stepFrom j s evaluation) (branch j s evaluation) (sym (ap (λ (x : State). x .machine .control) stepped) ∙ q)),
       );
     }
@@ -126,6 +186,10 @@ module _ (j : Job) (s : State) (i : Inv j s) (l : InPhase (s .machine .control))
   to-time : Still (j .table) (s .history) → ComesToTime j s
   to-time c = come j (s .history) (i .sound .rightly) c (s .machine) (s .machine .control) refl (i .fits) l
 
+  -- and what has come might come
+  came : (x : Happening) → Comes j s x → Might (j .table) (s .history) x
+  came x w = subst (Rightly (j .table)) (w .1) (inv-steps j (w .0) s i .sound .rightly) .1
+
   comes-quiet : Nothing (j .table) (s .history) → Comes j s quiet
   comes-quiet n =
       let c : ComesToTime j s = to-time (n .still) in
@@ -136,22 +200,36 @@ module _ (j : Job) (s : State) (i : Inv j s) (l : InPhase (s .machine .control))
       let c : ComesToTime j s = to-time (n .still) in
       comes-with limited c (time-of j (Then c) (inv-steps j (c .after) s i) (c .there) .ends-limited .0 (d, rw (c .same) n, rw (c .same) a))
 
-pub demand : Demand
-demand j n =
+delta-of : (j : Job) (s : State) → Inv j s → s .machine .control ≡ deltaPhase → Serves j s delta
+unfolding stepFrom
+delta-of j s i e x = rw e (serves-due (j .table) (s .history) delta delta-never (i .sound .rightly) x)
+
+kept : (j : Job) (n : ℕ) → Kept j (steps j n (init j))
+kept j n =
     let s : State = steps j n (init j) in
     let i : Inv j s = inv-steps j n (init j) (inv-init j) in
     let r : Rightly (j .table) (s .history) = i .sound .rightly in
+    let y = tells j n (inv-init j) in
     record {
       one-pends = pends (s .history);
       no-other = pends-one (s .history);
-      holds = λ a e. (on-waits (s .history) a (on e) refl, waits-on (j .table) (s .history) a (on e) refl r);
       rightly = r;
+      delta-serves = delta-of j s i;
+      served = λ e. let g : Standing (j .table) (s .history) turn = subst (Standing (j .table) (s .history)) e (i .sound .standing) in (g .2, g .3);
       ahead = λ u w.
           let p : Pending (j .table) (kernel (s .history)) (at u) = stands-pending (j .table) (s .history) (at u) r w in
           subst (Ahead (clock (s .history) .time)) (p .due) (i .sound .later (p .work) (p .within));
-      served = λ e. let g : Standing (j .table) (s .history) turn = subst (Standing (j .table) (s .history)) e (i .sound .standing) in (g .2, g .3);
-      ends-quiet = λ l. comes-quiet j s i l;
-      ends-limited = λ l. comes-limited j s i l;
+      holds = λ a e. (on-waits (s .history) a (on e) refl, waits-on (j .table) (s .history) a (on e) refl r);
+      sleeps = λ a d. (on-waits (s .history) a (till d) refl, waits-on (j .table) (s .history) a (till d) refl r);
+      frees = λ x g m a w. frees-at (j .table) x g (rightly-at (j .table) (x ∷ g) (s .history) m r) a w;
+      never-back = λ g m. time-forth (j .table) g (s .history) m r;
       time = λ e. time-of j s i e;
-      chooses = λ e. chooses-of j s i e;
+      ends-quiet = λ l. (comes-quiet j s i l, came j s i l quiet);
+      ends-limited = λ l. ((λ w. comes-limited j s i l (w .0) (w .1) (w .2)), came j s i l limited);
+      chooses = λ e. chooses-of j s i e (y .counts .choices);
+      told = λ lent. told-of j lent s y;
+      why = why-of j [] s y;
     }
+
+pub demand : Demand
+demand = record { kept = kept; answered = λ j lent. answered-run j lent (inv-init j) }

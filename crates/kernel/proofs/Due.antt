@@ -11,7 +11,8 @@ use Rattle.kernel.specs.Search.{Found, none, found, least}
 use Rattle.kernel.specs.Design.{Table, threads, events}
 use Rattle.kernel.specs.Kernel.{Due, never, delta, at, Wait, free, on, till, Kernel, History, kernel}
 use Rattle.kernel.specs.Pending.{dueOf, resumeDue, timeOf, leastTime, sameDue, served}
-use Rattle.kernel.specs.Demand.{Work, event, wait, resume, Within, DueAt, Stands, Rightly}
+use Rattle.kernel.specs.Words.{Work, event, wait, resume, Within, DueAt, Stands}
+use Rattle.kernel.specs.Demand.{Rightly}
 use Rattle.kernel.proofs.Search.{unfound, lesser-none, lesser-found, least-none, least-low, least-hit}
 use Rattle.kernel.proofs.Served.{served-pends, served-due, served-resuming}
 use Rattle.kernel.proofs.Measure.{time-at}
@@ -39,7 +40,7 @@ at-delta u q = let z : _≡_ {A = ℕ} 0 1 = cc in omega arith
 
 -- The kernel and the words ---------------------------------------------------------------------------------------
 
-due-in : (t : Table) (h : History) → Rightly t h → (x : Work) (d : Due) → DueAt h x d → dueIn (kernel h) x ≡ d
+pub due-in : (t : Table) (h : History) → Rightly t h → (x : Work) (d : Due) → DueAt h x d → dueIn (kernel h) x ≡ d
 due-in t h p (event e) d w = pends-one h e (kernel h .pends e) d (pends h e) w
 due-in t h p (wait i) d w = ap dueOf (waits-on t h i (till d) refl p w)
 due-in t h p (resume i) d w = ap resumeDue (thread-resuming h i ∙ w .0) ∙ w .1
@@ -129,7 +130,7 @@ module _ (t : Table) (k : Kernel) where
 
 -- After serving --------------------------------------------------------------------------------------------------
 
-same-self : (d : Due) → (d ≡ never → ⊥) → sameDue d d ≡ true
+pub same-self : (d : Due) → (d ≡ never → ⊥) → sameDue d d ≡ true
 same-self never n = absurd (n refl)
 same-self delta n = refl
 same-self (at t) n = eq-eqb t t refl

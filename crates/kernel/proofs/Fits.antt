@@ -1,19 +1,21 @@
 -- What holds where the machine stands, and every step keeps it: a running thread is runnable, and a running update requested.
-use Prim.Native.Nat.{ℕ, zero, suc}
+use Prim.Native.Nat.{ℕ, zero, suc, _+_, _<_}
 use mathlib.Core.Path.{_≡_, refl}
 use mathlib.Core.Bool.{Bool, true, false, _&&_}
 use mathlib.Core.List.{_∷_, _++_}
+use native.Mathlib.Omega.{arith}
 use lib.Dec.{ltb, eqb}
-use Rattle.laws.specs.Choice.{if_then_else_}
-use Rattle.kernel.specs.Design.{Table, Body, main, thread, update, updates}
+use borrow.Author.Tests.{ltb-true}
+use Rattle.laws.specs.Choice.{if_then_else_, and-left}
+use Rattle.kernel.specs.Design.{Table, Body, main, thread, update, threads, updates, number}
 use Rattle.kernel.specs.Kernel.{Kernel, Deed, nothing, reads, notifies, asks, waits, requests, suspends, resumes, ran, after, kernel}
 use Rattle.kernel.specs.Pending.{runnable, isRequested}
 use Rattle.kernel.specs.Effect.{Effect, stops, sets, takes, goes, does, begins}
 use Rattle.kernel.specs.Machine.{Job, Control, running, updatePhase, deltaPhase, turn, evaluation, timePhase, over, State, Out, init}
-use Rattle.kernel.specs.Step.{runsOn, perform, stepFrom, step, steps}
+use Rattle.kernel.specs.Step.{effectOf, runsOn, perform, stepFrom, step, steps}
 use Rattle.kernel.proofs.Search.{first-found}
 use Rattle.kernel.proofs.Branch as B
-use Rattle.kernel.proofs.Branch.{Branch, branch, effectOf}
+use Rattle.kernel.proofs.Branch.{Branch, branch}
 
 abbrev pub Fits : Table → Kernel → Control → Type 0
 Fits t k (running main) = Unit {0}
@@ -25,6 +27,16 @@ Fits t k turn = Unit {0}
 Fits t k evaluation = Unit {0}
 Fits t k timePhase = Unit {0}
 Fits t k (over n b p) = Unit {0}
+
+-- a body that runs is one of the design's
+pub body-there : (t : Table) (k : Kernel) (b : Body) → Fits t k (running b) → number t b < threads t + updates t + 1
+body-there t k main f = omega arith
+body-there t k (thread i) f =
+    let h : i < threads t = ltb-true i (threads t) (and-left (ltb i (threads t)) _ f) in
+    omega arith
+body-there t k (update u) f =
+    let h : u < updates t = ltb-true u (updates t) (and-left (ltb u (updates t)) (k .requested u) f) in
+    omega arith
 
 -- an update stays requested while it runs
 still-asked : (n z b : Bool) → n && b ≡ true → n && (if z then true else b) ≡ true
@@ -52,6 +64,16 @@ module _ (j : Job) (s : State) where
 
   abbrev Kept : Out → Type 0
   Kept o = Fits t (kernel (o .happens ++ s .history)) (o .next .control)
+
+  -- after an instruction the body runs, or evaluation follows
+  pub on-either : (P : Control → Type 0) → ((b : Body) → P (running b)) → P evaluation → (b : Body) (n : Kernel) → P (runsOn j s b n)
+  on-either P f e main n = f main
+  on-either P f e (thread i) n = go (runnable t n i)
+    where
+      go : (z : Bool) → P (if z then running (thread i) else evaluation)
+      go true = f (thread i)
+      go false = e
+  on-either P f e (update u) n = f (update u)
 
   -- "A dispatch runs it until it waits, suspends itself or reaches its end."
   runs-on : (b : Body) (x : Deed) → Fits t k (running b) → Fits t (kernel (ran b x ∷ s .history)) (runsOn j s b (kernel (ran b x ∷ s .history)))

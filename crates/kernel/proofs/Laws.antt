@@ -2,15 +2,15 @@
 use Prim.Native.Nat.{ℕ, zero, suc}
 use mathlib.Core.Path.{_≡_, refl, ap, _∙_}
 use mathlib.Core.Bool.{true, false}
-use mathlib.Core.List.{[], _∷_, _++_}
+use mathlib.Core.List.{[], _∷_}
 use Rattle.kernel.specs.Search.{none, found, nth, first}
-use Rattle.kernel.specs.Design.{Body, main, thread, update, updates, number}
-use Rattle.kernel.specs.Kernel.{delta, at, ended, dispatched, finished, moved, quiet, limited, kernel}
+use Rattle.kernel.specs.Design.{Body, main, thread, update, updates}
+use Rattle.kernel.specs.Kernel.{delta, ended, finished, quiet, limited, kernel}
 use Rattle.kernel.specs.Pending.{runnable, isRequested, leastTime, above, served}
 use Rattle.kernel.specs.Effect.{stops}
-use Rattle.kernel.specs.Machine.{Job, Control, running, updatePhase, deltaPhase, turn, evaluation, timePhase, over, State, Out, out, when_then_else_, given_orElse_take_, goTo, placed, chose}
-use Rattle.kernel.specs.Step.{perform, obey, phaseNumber, atEnd, stepFrom, advance, step, steps}
-use Rattle.kernel.proofs.Branch.{due, paid, someRunnable, effectOf, Branch, obeys, unpaid, main-ends, thread-ends, update-ends, idles, unchosen, refuses, dispatches, updated, enters, serves, turns, waits, quiets, limits, moves, rests}
+use Rattle.kernel.specs.Machine.{Job, Control, running, updatePhase, deltaPhase, turn, evaluation, timePhase, over, State, Out, out, when_then_else_, given_orElse_take_, goTo}
+use Rattle.kernel.specs.Step.{to, ends, due, paid, perform, effectOf, phaseNumber, atEnd, someRunnable, dispatch, enter, closes, timeNext, moveTo, stepFrom, advance, step, steps}
+use Rattle.kernel.proofs.Branch.{Branch, obeys, unpaid, main-ends, thread-ends, update-ends, idles, unchosen, refuses, dispatches, updated, enters, serves, turns, waits, quiets, limits, moves, rests}
 
 pub steps-suc : (j : Job) (n : ℕ) (s : State) → steps j (suc n) s ≡ steps j n (step j s)
 unfolding steps
@@ -26,8 +26,8 @@ unfolding steps
 steps-last j zero s = refl
 steps-last j (suc n) s = steps-last j n (step j s)
 
-from-branch : (j : Job) (s : State) (c : Control) (o : Out) → Branch j s c o → stepFrom j s c ≡ o
-unfolding stepFrom obey atEnd when_then_else_ given_orElse_take_
+pub from-branch : (j : Job) (s : State) (c : Control) (o : Out) → Branch j s c o → stepFrom j s c ≡ o
+unfolding stepFrom atEnd when_then_else_ given_orElse_take_
 from-branch j s c o (obeys b p q) = rw (p, q)
 from-branch j s c o (unpaid b p q) = rw (p, q)
 from-branch j s c o (main-ends q) = rw q
@@ -60,7 +60,7 @@ module _ (j : Job) (s : State) where
   pub step-unpaid : (b : Body) → s .machine .control ≡ running b → due j s b ≡ true → paid j s ≡ false → step j s ≡ advance s (perform j s b (stops 22))
   step-unpaid b e p q = step-by j s (running b) _ e (unpaid b p q)
 
-  pub step-main-ends : s .machine .control ≡ running main → due j s main ≡ false → step j s ≡ advance s (out [] (goTo (over (phaseNumber j s (kernel (s .history) .stage)) 0xff 0) (s .machine)))
+  pub step-main-ends : s .machine .control ≡ running main → due j s main ≡ false → step j s ≡ advance s (ends j s (phaseNumber j s (kernel (s .history) .stage)))
   step-main-ends e q = step-by j s (running main) _ e (main-ends q)
 
   pub step-thread-ends : (i : ℕ) → s .machine .control ≡ running (thread i) → due j s (thread i) ≡ false → step j s ≡ advance s (out (ended i ∷ []) (goTo evaluation (s .machine)))
@@ -70,52 +70,52 @@ module _ (j : Job) (s : State) where
   step-update-ends u e q = step-by j s (running (update u)) _ e (update-ends u q)
 
   -- Evaluation
-  pub step-idles : s .machine .control ≡ evaluation → someRunnable j s ≡ false → step j s ≡ advance s (out [] (goTo updatePhase (s .machine)))
+  pub step-idles : s .machine .control ≡ evaluation → someRunnable j s ≡ false → step j s ≡ advance s (to j s updatePhase)
   step-idles e q = step-by j s evaluation _ e (idles q)
 
-  pub step-unchosen : s .machine .control ≡ evaluation → someRunnable j s ≡ true → nth (j .choices) (s .machine .choices) ≡ none → step j s ≡ advance s (out [] (goTo (over 20 0xff 0) (s .machine)))
+  pub step-unchosen : s .machine .control ≡ evaluation → someRunnable j s ≡ true → nth (j .choices) (s .machine .choices) ≡ none → step j s ≡ advance s (ends j s 20)
   step-unchosen e p q = step-by j s evaluation _ e (unchosen p q)
 
   pub step-refuses : (c : ℕ) → s .machine .control ≡ evaluation → someRunnable j s ≡ true → nth (j .choices) (s .machine .choices) ≡ found c → runnable (j .table) (kernel (s .history)) c ≡ false
-      → step j s ≡ advance s (out [] (goTo (over 21 0xff 0) (s .machine)))
+      → step j s ≡ advance s (ends j s 21)
   step-refuses c e p q r = step-by j s evaluation _ e (refuses c p q r)
 
   pub step-dispatches : (c : ℕ) → s .machine .control ≡ evaluation → someRunnable j s ≡ true → nth (j .choices) (s .machine .choices) ≡ found c → runnable (j .table) (kernel (s .history)) c ≡ true
-      → step j s ≡ advance s (out (dispatched c ∷ []) (goTo (running (thread c)) (chose (s .machine))))
+      → step j s ≡ advance s (dispatch j s c)
   step-dispatches c e p q r = step-by j s evaluation _ e (dispatches c p q r)
 
   -- The update phase and the delta phase
-  pub step-updated : s .machine .control ≡ updatePhase → first (isRequested (j .table) (kernel (s .history))) (updates (j .table)) ≡ none → step j s ≡ advance s (out [] (goTo deltaPhase (s .machine)))
+  pub step-updated : s .machine .control ≡ updatePhase → first (isRequested (j .table) (kernel (s .history))) (updates (j .table)) ≡ none → step j s ≡ advance s (to j s deltaPhase)
   step-updated e q = step-by j s updatePhase _ e (updated q)
 
   pub step-enters : (u : ℕ) → s .machine .control ≡ updatePhase → first (isRequested (j .table) (kernel (s .history))) (updates (j .table)) ≡ found u
-      → step j s ≡ advance s (out [] (goTo (running (update u)) (placed (number (j .table) (update u)) 0 (s .machine))))
+      → step j s ≡ advance s (enter j s u)
   step-enters u e q = step-by j s updatePhase _ e (enters u q)
 
   pub step-serves : s .machine .control ≡ deltaPhase → step j s ≡ advance s (out (served (j .table) (kernel (s .history)) delta) (goTo turn (s .machine)))
   step-serves e = step-by j s deltaPhase _ e serves
 
   -- The turn to evaluation or time
-  pub step-turns : s .machine .control ≡ turn → someRunnable j s ≡ true → step j s ≡ advance s (out [] (goTo evaluation (s .machine)))
+  pub step-turns : s .machine .control ≡ turn → someRunnable j s ≡ true → step j s ≡ advance s (to j s evaluation)
   step-turns e q = step-by j s turn _ e (turns q)
 
-  pub step-waits : s .machine .control ≡ turn → someRunnable j s ≡ false → step j s ≡ advance s (out [] (goTo timePhase (s .machine)))
+  pub step-waits : s .machine .control ≡ turn → someRunnable j s ≡ false → step j s ≡ advance s (timeNext j s)
   step-waits e q = step-by j s turn _ e (waits q)
 
   -- Time
-  pub step-quiets : s .machine .control ≡ timePhase → leastTime (j .table) (kernel (s .history)) ≡ none → step j s ≡ advance s (out (quiet ∷ []) (goTo (running main) (s .machine)))
+  pub step-quiets : s .machine .control ≡ timePhase → leastTime (j .table) (kernel (s .history)) ≡ none → step j s ≡ advance s (closes j s quiet)
   step-quiets e q = step-by j s timePhase _ e (quiets q)
 
   pub step-limits : (d : ℕ) → s .machine .control ≡ timePhase → leastTime (j .table) (kernel (s .history)) ≡ found d → above d (kernel (s .history) .limit) ≡ true
-      → step j s ≡ advance s (out (limited ∷ []) (goTo (running main) (s .machine)))
+      → step j s ≡ advance s (closes j s limited)
   step-limits d e p q = step-by j s timePhase _ e (limits d p q)
 
   pub step-moves : (d : ℕ) → s .machine .control ≡ timePhase → leastTime (j .table) (kernel (s .history)) ≡ found d → above d (kernel (s .history) .limit) ≡ false
-      → step j s ≡ advance s (out (served (j .table) (kernel (s .history)) (at d) ++ (moved d ∷ [])) (goTo turn (s .machine)))
+      → step j s ≡ advance s (moveTo j s d)
   step-moves d e p q = step-by j s timePhase _ e (moves d p q)
 
   -- Over
-  pub step-rests : (n b p : ℕ) → s .machine .control ≡ over n b p → step j s ≡ advance s (out [] (goTo (over n b p) (s .machine)))
+  pub step-rests : (n b p : ℕ) → s .machine .control ≡ over n b p → step j s ≡ advance s (to j s (over n b p))
   step-rests n b p e = step-by j s (over n b p) _ e (rests n b p)
 
 pub ruleset step-laws = (step-obeys, step-unpaid, step-main-ends, step-thread-ends, step-update-ends, step-idles, step-unchosen, step-refuses, step-dispatches, step-updated, step-enters, step-serves, step-turns, step-waits, step-quiets, step-limits, step-moves, step-rests)

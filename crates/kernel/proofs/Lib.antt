@@ -1,6 +1,7 @@
 pub mod Search
 pub mod Fields
 pub mod Served
+pub mod Asking
 pub mod Branch
 pub mod Laws
 pub mod Fits
@@ -14,4 +15,7 @@ pub mod Ahead
 pub mod Serving
 pub mod Rightly
 pub mod Comes
+pub mod Moments
+pub mod Serves
+pub mod Told
 pub mod Demand

@@ -15,13 +15,13 @@ use Rattle.kernel.specs.Kernel.{Due, never, delta, at, Kernel, Deed, not
 use Rattle.kernel.specs.Pending.{runnable, isRequested, leastTime, above, sameDue, served}
 use Rattle.kernel.specs.Effect.{Effect, stops, sets, takes, goes, does, begins}
 use Rattle.kernel.specs.Machine.{Job, Control, running, updatePhase, deltaPhase, turn, evaluation, timePhase, over, State, Out, init}
-use Rattle.kernel.specs.Step.{runsOn, perform, view, stepFrom, step, steps}
-use Rattle.kernel.specs.Words.{since, clock, InStage, between, Runnable, Requested, Lull, begun, idle, yet, Lowest, lowest, runs, Underway, starts, goes-on}
-use Rattle.kernel.specs.Demand.{Work, event, wait, resume, Within, Stands, Still, Earliest, Above, in-delta, at-time, Might, Rightly}
-use Rattle.kernel.proofs.Search.{any-none, first-none, first-found}
+use Rattle.kernel.specs.Step.{someRunnable, effectOf, runsOn, perform, view, stepFrom, step, steps}
+use Rattle.kernel.specs.Words.{since, clock, InStage, between, Runnable, Requested, Lull, begun, idle, yet, Lowest, lowest, runs, Underway, starts, goes-on, Work, event, wait, resume, Within, Stands, Still, Earliest, Above}
+use Rattle.kernel.specs.Demand.{in-delta, at-time, Might, Rightly, SomeRunnable}
+use Rattle.kernel.proofs.Search.{any-none, any-some, first-none, first-found}
 use Rattle.kernel.proofs.Served.{served-now}
 use Rattle.kernel.proofs.Branch as B
-use Rattle.kernel.proofs.Branch.{Branch, branch, someRunnable, effectOf}
+use Rattle.kernel.proofs.Branch.{Branch, branch}
 use Rattle.kernel.proofs.Fits.{Fits, fits-step}
 use Rattle.kernel.proofs.Words.{runs-runnable, runnable-runs, wants-requested, requested-wants, time-now, limit-now, stage-now}
 use Rattle.kernel.proofs.Due.{dueIn, Pending, delta-never, at-never, stands-pending, pending-stands, none-due, found-due, found-first, served-in, pending-back, pending-gone}
@@ -85,7 +85,7 @@ left-off t i n d h q (goes-on u r) = q r
 past-during : (n : ℕ) → past n ≡ during → ⊥
 past-during n q = let z : _≡_ {A = ℕ} 0 1 = cc in omega arith
 
-above-true : (d : ℕ) (f : Found) → above d f ≡ true → Above d f
+pub above-true : (d : ℕ) (f : Found) → above d f ≡ true → Above d f
 above-true d none q = absurd (false≢true q)
 above-true d (found n) q = ltb-true n d q
 
@@ -112,6 +112,9 @@ module _ (j : Job) (s : State) where
 
   no-runnable : someRunnable j s ≡ false → (i : ℕ) → Runnable t h i → ⊥
   no-runnable q i r = true≢false (sym (runnable-runs t h i r) ∙ any-none (runnable t k) (threads t) q i (r .there))
+
+  pub some-runnable : Rightly t h → someRunnable j s ≡ true → SomeRunnable t h
+  some-runnable p q = let w = any-some (runnable t k) (threads t) q in (w .0, runs-runnable t h (w .0) p (w .2))
 
   no-request : first (isRequested t k) (updates t) ≡ none → NoUpdate t h
   no-request q u r = true≢false (sym (requested-wants t h u r) ∙ first-none (isRequested t k) (updates t) q u (r .there))
@@ -166,7 +169,7 @@ module _ (j : Job) (s : State) where
     performs b (sets d x) a f o = goes-by b nothing refl tt f o
     performs b (takes d x) a f o = goes-by b reads refl tt f o
     performs b (goes n) a f o = goes-by b nothing refl tt f o
-    performs b (does x) a f o = has-run b x (runsOn j s b (kernel (ran b x ∷ h))) f o a (goes-or-not b x o)
+    performs b (does x) a f o = has-run b x (runsOn j s b (kernel (ran b x ∷ h))) f o (a .0) (goes-or-not b x o)
     performs b (begins n) a f o = happens (began n) updatePhase a tt refl tt (λ r. (refl, begun))
 
     obeys : (b : Body) → Fits t k (running b) → Standing t h (running b) → Good (perform j s b (effectOf j s b))

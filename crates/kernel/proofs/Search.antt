@@ -59,7 +59,8 @@ first-none p zero q k h = absurd (omega arith)
 first-none p (suc n) q k h = go (first p n) refl (p n) refl q (last k n h) (first-none p n)
   where
     go : (f : Found) → first p n ≡ f → (b : Bool) → p n ≡ b → firstOf f b n ≡ none → (k ≡ n) ⊎ (k < n) → (first p n ≡ none → (i : ℕ) → i < n → p i ≡ false) → p k ≡ false
-    go (found i) e b z r l f = absurd (unfound i (sym r))
+    go (found i) e true z r l f = absurd (unfound _ (sym r))
+    go (found i) e false z r l f = absurd (unfound _ (sym r))
     go none e true z r l f = absurd (unfound n (sym r))
     go none e false z r (inl s) f = rw s z
     go none e false z r (inr l) f = f e k l
@@ -141,6 +142,11 @@ least-hit f (suc n) t q = go (lesser-found (f n) (least f n) t q .hit) (least-hi
     go (inr e) g = let w = g e in (w .0, omega arith, w .2)
 
 -- Sums -------------------------------------------------------------------------------------------------------
+
+pub sum-same : (f g : ℕ → ℕ) (n : ℕ) → ((i : ℕ) → i < n → f i ≡ g i) → sum f n ≡ sum g n
+unfolding sum
+sum-same f g zero h = refl
+sum-same f g (suc n) h = rw (h n (omega arith), sum-same f g n (λ i l. h i (omega arith)))
 
 pub sum-le : (f g : ℕ → ℕ) → ((i : ℕ) → g i ≤ f i) → (n : ℕ) → sum g n ≤ sum f n
 unfolding sum

@@ -111,7 +111,7 @@ due-freed (till d) = refl
 abbrev pub dueAt : ℕ → Kernel → Due
 dueAt i k = dueOf (k .threads i .wait)
 
-same-eq : (a d : Due) → sameDue a d ≡ true → a ≡ d
+pub same-eq : (a d : Due) → sameDue a d ≡ true → a ≡ d
 same-eq never d q = absurd (false≢true q)
 same-eq delta never q = absurd (false≢true q)
 same-eq delta delta q = refl

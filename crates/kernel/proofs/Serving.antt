@@ -7,8 +7,8 @@ use Rattle.kernel.specs.Search.{addIf, each}
 use Rattle.kernel.specs.Design.{Table, threads, events}
 use Rattle.kernel.specs.Kernel.{Due, never, Kernel, Happening, triggered, freed, resumed, History, during, kernel}
 use Rattle.kernel.specs.Pending.{served}
-use Rattle.kernel.specs.Words.{since, requested, Clock, clock, InStage, between, Requested, Lull, yet}
-use Rattle.kernel.specs.Demand.{Work, event, wait, resume, Now, in-delta, at-time, Ripe, Might, Rightly}
+use Rattle.kernel.specs.Words.{since, requested, Clock, clock, InStage, between, Requested, Lull, yet, Work, event, wait, resume, serves}
+use Rattle.kernel.specs.Demand.{Now, in-delta, at-time, Ripe, Might, Rightly}
 use Rattle.kernel.proofs.Served.{spread, event-due, wait-due, resume-due}
 use Rattle.kernel.proofs.Due.{dueIn, delta-never, at-never, in-due}
 
@@ -38,11 +38,6 @@ module _ (t : Table) (d : Due) where
     no-update = λ u q. s .no-update u (record { there = q .there; asked = sym (r u) ∙ q .asked });
     now = same-now x h d c (s .now);
   }
-
-  abbrev serves : Work → Happening
-  serves (event e) = triggered e
-  serves (wait i) = freed i
-  serves (resume i) = resumed i
 
   serve-one : (x : Work) (h : History) → dueIn (kernel h) x ≡ d → Serving t d h → Serving t d (serves x ∷ h)
   unfolding clock since

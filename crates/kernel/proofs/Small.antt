@@ -1,23 +1,21 @@
 -- The numbers of an answer fit 32 bits: the body and the place that a run stops at, the choices and the inputs. Assumes nothing.
-use Prim.Native.Nat.{ℕ, zero, suc, _+_, _<_, _≤_}
-use mathlib.Core.Path.{_≡_, refl}
-use mathlib.Core.Bool.{Bool, true, false}
+use Prim.Native.Nat.{ℕ, zero, suc, _<_, _≤_}
+use mathlib.Core.Path.{_≡_}
+use mathlib.Core.Bool.{true}
 use native.Mathlib.Omega.{arith}
 use borrow.Author.Tests.{ltb-true}
-use lib.Dec.{ltb}
 use lib.ListN.{length}
-use Rattle.laws.specs.Choice.{if_then_else_, and-left}
+use Rattle.laws.specs.Choice.{if_then_else_}
 use Rattle.image.specs.Layout.{counts, len}
-use Rattle.kernel.specs.Design.{Table, Body, main, thread, update, threads, updates, number, lengthOf}
-use Rattle.kernel.specs.Kernel.{Kernel, Deed, ran, kernel}
-use Rattle.kernel.specs.Pending.{runnable, isRequested}
+use Rattle.kernel.specs.Design.{Table, Body, threads, updates, number, lengthOf}
+use Rattle.kernel.specs.Kernel.{Kernel, kernel}
 use Rattle.kernel.specs.Effect.{Effect, stops, sets, takes, goes, does, begins}
 use Rattle.kernel.specs.Machine.{Job, Control, running, updatePhase, deltaPhase, turn, evaluation, timePhase, over, Machine, State, Out, goTo, init}
-use Rattle.kernel.specs.Step.{runsOn, perform, stepFrom, step, steps}
+use Rattle.kernel.specs.Step.{due, effectOf, perform, stepFrom, step, steps}
 use Rattle.kernel.proofs.Search.{nth-some}
 use Rattle.kernel.proofs.Branch as B
-use Rattle.kernel.proofs.Branch.{Branch, branch, effectOf}
-use Rattle.kernel.proofs.Fits.{Fits, fits-step}
+use Rattle.kernel.proofs.Branch.{Branch, branch}
+use Rattle.kernel.proofs.Fits.{Fits, body-there, on-either, fits-step}
 
 abbrev pub Small : Control → Type 0
 Small (running b) = Unit {0}
@@ -49,13 +47,7 @@ module _ (t : Table) where
   short-body n = omega arith
 
   small-number : (k : Kernel) (b : Body) → Fits t k (running b) → number t b < 4294967296
-  small-number k main f = omega arith
-  small-number k (thread i) f =
-      let h : i < threads t = ltb-true i (threads t) (and-left (ltb i (threads t)) _ f) in
-      omega (arith, few-threads)
-  small-number k (update u) f =
-      let h : u < updates t = ltb-true u (updates t) (and-left (ltb u (updates t)) (k .requested u) f) in
-      omega (arith, few-threads, few-updates)
+  small-number k b f = omega (arith, body-there t k b f, few-threads, few-updates)
 
 module _ (j : Job) (s : State) where
   abbrev t : Table
@@ -64,16 +56,7 @@ module _ (j : Job) (s : State) where
   abbrev k : Kernel
   k = kernel (s .history)
 
-  small-on : (b : Body) (n : Kernel) → Small (runsOn j s b n)
-  small-on main n = tt
-  small-on (thread i) n = go (runnable t n i)
-    where
-      go : (z : Bool) → Small (if z then running (thread i) else evaluation)
-      go true = tt
-      go false = tt
-  small-on (update u) n = tt
-
-  few-perform : (b : Body) (x : Effect) → Fits t k (running b) → B.due j s b ≡ true → Few j (s .machine) → Few j (perform j s b x .next)
+  few-perform : (b : Body) (x : Effect) → Fits t k (running b) → due j s b ≡ true → Few j (s .machine) → Few j (perform j s b x .next)
   unfolding perform
   few-perform b (stops n) f d z =
       let h : s .machine .places (number t b) < lengthOf t (number t b) = ltb-true (s .machine .places (number t b)) (lengthOf t (number t b)) d in
@@ -85,7 +68,7 @@ module _ (j : Job) (s : State) where
   few-perform b (sets d x) f h z = record { control = tt; choices = z .choices; inputs = omega (arith, z .inputs) }
   few-perform b (takes d x) f h z = record { control = tt; choices = z .choices; inputs = omega (arith, z .inputs) }
   few-perform b (goes p) f h z = record { control = tt; choices = z .choices; inputs = omega (arith, z .inputs) }
-  few-perform b (does x) f h z = record { control = small-on b _; choices = z .choices; inputs = omega (arith, z .inputs) }
+  few-perform b (does x) f h z = record { control = on-either j s Small (λ c. tt) tt b _; choices = z .choices; inputs = omega (arith, z .inputs) }
   few-perform b (begins l) f h z = record { control = tt; choices = z .choices; inputs = omega (arith, z .inputs) }
 
   -- the machine at another place

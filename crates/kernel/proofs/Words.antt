@@ -102,7 +102,7 @@ unfolding kernel since
 update-requested [] u = refl
 update-requested (x ∷ h) u = rw (← update-requested h u) (marks x u (kernel h) .0)
 
-thread-ended : (h : History) (i : ℕ) → kernel h .threads i .ended ≡ hasEnded h i
+pub thread-ended : (h : History) (i : ℕ) → kernel h .threads i .ended ≡ hasEnded h i
 unfolding kernel since
 thread-ended [] i = refl
 thread-ended (x ∷ h) i = rw (← thread-ended h i) (marks x i (kernel h) .1 .0)

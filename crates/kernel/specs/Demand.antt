@@ -1,62 +1,19 @@
 -- What holds in every run, over its history: one notification an event, no wait forgotten, time and phases in their order, choices.
-use Prim.Native.Nat.{ℕ, _≤_, _<_}
+use Prim.Native.Nat.{ℕ, _+_, _≤_, _<_}
 use mathlib.Core.Path.{_≡_}
 use mathlib.Core.Bool.{true}
 use mathlib.Core.Logic.{_↔_}
-use mathlib.Core.List.{[], _∷_}
+use mathlib.Core.List.{List, [], _∷_}
+use lib.ListN.{length}
+use Rattle.image.specs.Limits.{mostCells}
+use Rattle.image.specs.Judge.{judged}
 use Rattle.kernel.specs.Search.{Found, none, found, nth}
-use Rattle.kernel.specs.Design.{Table, main, thread, update, threads, events}
-use Rattle.kernel.specs.Kernel.{Due, delta, at, on, Happening, ran, triggered, freed, resumed, ended, dispatched, finished, began, moved, quiet, limited, History, kernel}
+use Rattle.kernel.specs.Design.{Table, main, thread, update, threads, updates}
+use Rattle.kernel.specs.Kernel.{Due, delta, at, Wait, on, till, Happening, ran, triggered, freed, resumed, ended, dispatched, finished, began, moved, quiet, limited, History, before, past, kernel}
 use Rattle.kernel.specs.Machine.{Job, Control, running, updatePhase, deltaPhase, turn, evaluation, timePhase, over, State, init}
-use Rattle.kernel.specs.Step.{step, steps}
-use Rattle.kernel.specs.Words.{resuming, clock, InStage, Pends, Held, Sleeps, Runnable, Requested, Lull, Lowest, Underway}
-
--- What is due ----------------------------------------------------------------------------------------------------
-
--- what can be due: a notification of an event, a thread's wait for a time, a thread's resume
-pub data Work : Type 0 where
-  event : ℕ → Work
-  wait : ℕ → Work
-  resume : ℕ → Work
-
-abbrev pub Within : Table → Work → Type 0
-Within t (event e) = e < events t
-Within t (wait i) = i < threads t
-Within t (resume i) = i < threads t
-
--- it is due at d; a resume that stands is due in the delta phase
-abbrev pub DueAt : History → Work → Due → Type 0
-DueAt h (event e) d = Pends h e d
-DueAt h (wait i) d = Sleeps i d h
-DueAt h (resume i) d = (resuming h i ≡ true) × (delta ≡ d)
-
--- something of the design is due at d
-pub record Stands (t : Table) (h : History) (d : Due) : Type 0 where
-  pub work : Work
-  pub within : Within t work
-  pub due : DueAt h work d
-
--- no thread is runnable, no update requested, no delta work pending
-pub record Still (t : Table) (h : History) : Type 0 where
-  pub no-thread : (i : ℕ) → Runnable t h i → ⊥
-  pub no-update : (u : ℕ) → Requested t h u → ⊥
-  pub no-delta : Stands t h delta → ⊥
-
--- nothing is left
-pub record Nothing (t : Table) (h : History) : Type 0 where
-  pub still : Still t h
-  pub no-due : (u : ℕ) → Stands t h (at u) → ⊥
-
--- d is the earliest time that stands due, and later than now
-pub record Earliest (t : Table) (h : History) (d : ℕ) : Type 0 where
-  pub still : Still t h
-  pub due : Stands t h (at d)
-  pub first : (u : ℕ) → Stands t h (at u) → d ≤ u
-  pub later : clock h .time < d
-
-abbrev pub Above : ℕ → Found → Type 0
-Above d none = ⊥
-Above d (found l) = l < d
+use Rattle.kernel.specs.Step.{stepFrom, step, steps}
+use Rattle.kernel.specs.Run.{Answer, outcomeOf, bound, mostChoices, mostInputs, asked}
+use Rattle.kernel.specs.Words.{Among, Moment, clock, InStage, Pends, endsWait, Waits, Held, Sleeps, Unheld, Runnable, Requested, Work, event, wait, resume, Within, DueAt, serves, Stands, Nothing, Earliest, Above, Lull, Lowest, Underway, completed, accepted, taken, unended}
 
 -- What may happen --------------------------------------------------------------------------------------------------
 
@@ -114,10 +71,24 @@ InPhase evaluation = Unit {0}
 InPhase timePhase = Unit {0}
 InPhase (over n b p) = ⊥
 
--- at the time phase: the phase ends as quiet, or as limit, exactly when
+-- what the next step adds to the history, the newest first
+abbrev pub added : Job → State → History
+added j s = stepFrom j s (s .machine .control) .happens
+
+-- the next step does the work that is due at d, all of it and no other
+abbrev pub Serves : Job → State → Due → Type 0
+Serves j s d = (x : Work) → ((Within (j .table) x) × (DueAt (s .history) x d)) ↔ Among (serves x) (added j s)
+
+-- at the time phase: it ends as quiet, or as limit, or time moves to d, exactly when; and what is due at d is served exactly then
 pub record Time (j : Job) (s : State) : Type 0 where
   pub ends-quiet : Nothing (j .table) (s .history) ↔ (step j s .history ≡ quiet ∷ s .history)
   pub ends-limited : ((d : ℕ) × (Earliest (j .table) (s .history) d) × (Above d (clock (s .history) .limit))) ↔ (step j s .history ≡ limited ∷ s .history)
+  pub moves : (d : ℕ) → ((Earliest (j .table) (s .history) d) × (Above d (clock (s .history) .limit) → ⊥)) ↔ Among (moved d) (added j s)
+  pub serves-then : (d : ℕ) → Among (moved d) (added j s) → Serves j s (at d)
+
+-- the next choice, if one is left
+abbrev pub choice : Job → History → Found
+choice j h = nth (j .choices) (accepted h)
 
 -- some thread is runnable
 abbrev pub SomeRunnable : Table → History → Type 0
@@ -125,32 +96,77 @@ SomeRunnable t h = (i : ℕ) × Runnable t h i
 
 -- at evaluation: "20, 21: choices used up with a thread runnable; choice names a thread that isn't runnable"
 pub record Chooses (j : Job) (s : State) : Type 0 where
-  pub accepts : (c : ℕ) → ((nth (j .choices) (s .machine .choices) ≡ found c) × (Runnable (j .table) (s .history) c)) ↔ (step j s .history ≡ dispatched c ∷ s .history)
-  pub used-up : ((nth (j .choices) (s .machine .choices) ≡ none) × (SomeRunnable (j .table) (s .history))) ↔ (step j s .machine .control ≡ over 20 0xff 0)
-  pub refused : ((c : ℕ) × (nth (j .choices) (s .machine .choices) ≡ found c) × (Runnable (j .table) (s .history) c → ⊥) × (SomeRunnable (j .table) (s .history))) ↔ (step j s .machine .control ≡ over 21 0xff 0)
+  pub accepts : (c : ℕ) → ((choice j (s .history) ≡ found c) × (Runnable (j .table) (s .history) c)) ↔ (step j s .history ≡ dispatched c ∷ s .history)
+  pub used-up : ((choice j (s .history) ≡ none) × (SomeRunnable (j .table) (s .history))) ↔ (step j s .machine .control ≡ over 20 0xff 0)
+  pub refused : ((c : ℕ) × (choice j (s .history) ≡ found c) × (Runnable (j .table) (s .history) c → ⊥) × (SomeRunnable (j .table) (s .history))) ↔ (step j s .machine .control ≡ over 21 0xff 0)
 
 -- x comes next: after some steps it has happened, and nothing before it
 abbrev pub Comes : Job → State → Happening → Type 0
 Comes j s x = (n : ℕ) × (steps j n s .history ≡ x ∷ s .history)
 
+-- The answer -------------------------------------------------------------------------------------------------------
+
+-- "time, instructions completed, choices accepted, inputs taken, and the threads not ended" are what the history says
+pub record Told (t : Table) (h : History) (a : Answer) : Type 0 where
+  pub time : a .time ≡ clock h .time
+  pub instructions : a .instructions ≡ completed h
+  pub choices : a .choices ≡ accepted h
+  pub inputs : a .inputs ≡ taken h
+  pub threads : a .threads ≡ unended t h
+
+-- why a run is over, with which number, body and place: an instruction stopped it; or none, with ff and 0: main came to its end, after
+-- the phase with the phase's number, or with no phase; the choices were used up; or the next one names no runnable thread
+pub data Why (j : Job) (h : History) : (n b p : ℕ) → Type 0 where
+  stopped : {n b p : ℕ} → b < threads (j .table) + updates (j .table) + 1 → Why j h n b p
+  phase-over : {n : ℕ} → clock h .stage ≡ past n → Why j h n 0xff 0
+  no-start : clock h .stage ≡ before → Why j h 11 0xff 0
+  none-left : choice j h ≡ none → SomeRunnable (j .table) h → Why j h 20 0xff 0
+  not-runnable : (c : ℕ) → choice j h ≡ found c → (Runnable (j .table) h c → ⊥) → SomeRunnable (j .table) h → Why j h 21 0xff 0
+
+-- The theorem ------------------------------------------------------------------------------------------------------
+
+-- In a state of a run, with a field for each sentence. Where a field names the kernel's marks, it says that they are what the words say.
 pub record Kept (j : Job) (s : State) : Type 0 where
-  -- 1: one notification pends for an event at most, the earliest asked for since it last triggered
+  -- one notification pends for an event, the earliest asked for since the event last triggered
   pub one-pends : (e : ℕ) → Pends (s .history) e (kernel (s .history) .pends e)
   pub no-other : (e : ℕ) (p q : Due) → Pends (s .history) e p → Pends (s .history) e q → p ≡ q
-  -- 2: a thread that waits for an event is held exactly from its wait to the event's next trigger
-  pub holds : (i e : ℕ) → (kernel (s .history) .threads i .wait ≡ on e) ↔ Held i e (s .history)
-  -- 1 to 5: each happening came when it might
+  -- whatever happened came when it might: an event triggered, a wait for a time was over and a resume took effect when due; time moved
+  -- with nothing else to do, to the earliest time due; the phase ended as quiet with nothing left, as limit with that time above it
   pub rightly : Rightly (j .table) (s .history)
-  -- what was due is served: what stands due lies ahead, and after the delta phase no delta work and no request is left
-  pub ahead : (u : ℕ) → Stands (j .table) (s .history) (at u) → clock (s .history) .time < u
+  -- and whatever is due comes: the delta phase triggers, frees and resumes all that is due in it, and no other (for times see `time`)
+  pub delta-serves : s .machine .control ≡ deltaPhase → Serves j s delta
   pub served : s .machine .control ≡ turn → ((u : ℕ) → Requested (j .table) (s .history) u → ⊥) × (Stands (j .table) (s .history) delta → ⊥)
-  -- 4: the phase ends as quiet, or as limit, exactly when
-  pub ends-quiet : InPhase (s .machine .control) → Nothing (j .table) (s .history) → Comes j s quiet
-  pub ends-limited : InPhase (s .machine .control) → (d : ℕ) → Earliest (j .table) (s .history) d → Above d (clock (s .history) .limit) → Comes j s limited
+  pub ahead : (u : ℕ) → Stands (j .table) (s .history) (at u) → clock (s .history) .time < u
+  -- a thread that waits for an event is held exactly from its wait to the event's next trigger, suspended or not; so for a wait for a time
+  pub holds : (i e : ℕ) → (kernel (s .history) .threads i .wait ≡ on e) ↔ Held i e (s .history)
+  pub sleeps : (i : ℕ) (d : Due) → (kernel (s .history) .threads i .wait ≡ till d) ↔ Sleeps i d (s .history)
+  -- a thread that was freed has nothing left of that wait, or of any other
+  pub frees : (x : Happening) (g : History) → Moment (x ∷ g) (s .history) → (i : ℕ) (w : Wait) → Waits i w g → endsWait i w x ≡ true → Unheld i (x ∷ g)
+  -- time never goes backwards
+  pub never-back : (g : History) → Moment g (s .history) → clock g .time ≤ clock (s .history) .time
+  -- time moves, and the phase ends as quiet or as limit, exactly when
   pub time : s .machine .control ≡ timePhase → Time j s
-  -- 5: a choice is accepted exactly when it names a runnable thread; 20 and 21 accordingly
+  pub ends-quiet : InPhase (s .machine .control) → Nothing (j .table) (s .history) ↔ Comes j s quiet
+  pub ends-limited : InPhase (s .machine .control) → ((d : ℕ) × (Earliest (j .table) (s .history) d) × (Above d (clock (s .history) .limit))) ↔ Comes j s limited
+  -- a choice is accepted exactly when it names a runnable thread; 20 and 21 accordingly
   pub chooses : s .machine .control ≡ evaluation → Chooses j s
+  -- the answer that this state would give tells what the history says
+  pub told : (lent : List ℕ) → Told (j .table) (s .history) (outcomeOf j lent s .answer)
+  pub why : (n b p : ℕ) → s .machine .control ≡ over n b p → Why j (s .history) n b p
 
--- after any number of steps of any run
-abbrev pub Demand : Type 0
-Demand = (j : Job) (n : ℕ) → Kept j (steps j n (init j))
+-- the run is not refused
+pub record Fit (j : Job) (lent : List ℕ) : Type 0 where
+  pub choices : length (j .choices) ≤ mostChoices
+  pub inputs : length (j .inputs) ≤ mostInputs
+  pub room : mostCells ≤ length lent
+  pub accepted : judged (j .table) .number ≡ 0
+
+-- the answer that the caller sees tells what the history of the run's last state says
+pub record Answered (j : Job) (h : History) (a : Answer) : Type 0 where
+  pub told : Told (j .table) h a
+  pub why : Why j h (a .number) (a .body) (a .place)
+
+-- after any number of steps of any run, whatever the table, and of every answer that `asked` gives and no refusal is
+pub record Demand : Type 0 where
+  pub kept : (j : Job) (n : ℕ) → Kept j (steps j n (init j))
+  pub answered : (j : Job) (lent : List ℕ) → Fit j lent → Answered j (steps j (bound j) (init j) .history) (asked j lent .answer)

@@ -3,6 +3,7 @@ pub mod Design
 pub mod Kernel
 pub mod Pending
 pub mod Effect
+pub mod Asking
 pub mod Machine
 pub mod Step
 pub mod Run

@@ -14,7 +14,7 @@ use Rattle.kernel.specs.Kernel.{Due, never, delta, at, ran, notifies, as
 use Rattle.kernel.specs.Pending.{leastTime, timesOf, served}
 use Rattle.kernel.specs.Effect.{effect}
 use Rattle.kernel.specs.Machine.{when_then_else_, given_orElse_take_}
-use Rattle.kernel.specs.Step.{perform, obey, atEnd, stepFrom, step, steps}
+use Rattle.kernel.specs.Step.{perform, atEnd, stepFrom, step, steps}
 use Rattle.kernel.specs.Run.{Outcome, runs, asked}
 
 -- what is compared: a value, a result of the arithmetic, what an event pends for, the outcome of a run
@@ -79,6 +79,6 @@ cases =
     ∷ []
 
 pub marked : Same cases
-unfolding addU subU mulU quotU remU signed bitsOf inRange narrow addS subS mulS divisionS quotS remS bitwise andB orB notB equal differ ltU leU ltS leS isZero usesOf meaningOf fits instructionFault counts bodies len lengths firstLine dueFrames bodyFrom bodyAt kindOf headerFits bodyFits headerFault bodyFault fault ending look judged nth any first least sum each kernel after leastTime timesOf served effect when_then_else_ given_orElse_take_ perform obey atEnd stepFrom step steps runs asked
+unfolding addU subU mulU quotU remU signed bitsOf inRange narrow addS subS mulS divisionS quotS remS bitwise andB orB notB equal differ ltU leU ltS leS isZero usesOf meaningOf fits instructionFault counts bodies len lengths firstLine dueFrames bodyFrom bodyAt kindOf headerFits bodyFits headerFault bodyFault fault ending look judged nth any first least sum each kernel after leastTime timesOf served effect when_then_else_ given_orElse_take_ perform atEnd stepFrom step steps runs asked
 marked =
     (refl, (refl, (refl, (refl, (refl, (refl, (refl, (refl, (refl, (refl, (refl, (refl, (refl, (refl, (refl, (refl, (refl, (refl, (refl, tt)))))))))))))))))))

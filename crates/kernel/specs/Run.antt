@@ -1,13 +1,12 @@
 -- A run and its answer.
 use Prim.Native.Nat.{ℕ, _+_, _*_, _^_}
-use mathlib.Core.Bool.{Bool}
-use mathlib.Core.List.{List, []}
+use mathlib.Core.List.{List}
 use lib.Dec.{eqb, ltb}
 use lib.ListN.{length}
 use Rattle.laws.specs.Choice.{if_then_else_}
 use Rattle.laws.specs.Lists.{over as storedOver}
 use Rattle.image.specs.Limits.{mostCells}
-use Rattle.image.specs.Judge.{Said, judged}
+use Rattle.image.specs.Judge.{judged}
 use Rattle.kernel.specs.Search.{sum}
 use Rattle.kernel.specs.Design.{Table, threads}
 use Rattle.kernel.specs.Kernel.{Kernel, kernel}

@@ -1,11 +1,12 @@
 -- One step of the machine. Document 01, "The kernel", from start on.
 use Prim.Native.Nat.{ℕ, zero, suc}
-use mathlib.Core.Bool.{Bool, true, false}
-use mathlib.Core.List.{List, [], _∷_, _++_}
+use mathlib.Core.Bool.{Bool}
+use mathlib.Core.List.{[], _∷_, _++_}
 use lib.Dec.{ltb}
 use Rattle.laws.specs.Choice.{if_then_else_}
+use Rattle.frame.specs.declared.Frame.{Frame}
 use Rattle.frame.specs.Ops.{meaningOf}
-use Rattle.kernel.specs.Search.{Found, none, found, nth, any, first}
+use Rattle.kernel.specs.Search.{nth, any, first}
 use Rattle.kernel.specs.Design.{Table, Body, main, thread, update, threads, updates, number, lengthOf, instruction}
 use Rattle.kernel.specs.Kernel.{delta, at, Kernel, nothing, reads, Happening, ran, ended, dispatched, finished, began, moved, quiet, limited, Stage, before, during, past, kernel}
 use Rattle.kernel.specs.Pending.{runnable, isRequested, leastTime, above, timesOf, served}
@@ -23,17 +24,24 @@ module _ (j : Job) (s : State) where
   k = kernel (s .history)
 
   -- nothing happens, and the machine goes to c
-  abbrev to : Control → Out
+  abbrev pub to : Control → Out
   to c = out [] (goTo c m)
 
   -- over, at no instruction: "ff and 0 for 0, 10, 11, 20, 21"
-  abbrev ends : ℕ → Out
+  abbrev pub ends : ℕ → Out
   ends n = to (over n 0xff 0)
 
   -- A body runs ----------------------------------------------------------------------------------------------
 
   abbrev placeOf : Body → ℕ
   placeOf b = m .places (number t b)
+
+  -- an instruction of b is due; the budget is not used up
+  abbrev pub due : Body → Bool
+  due b = ltb (placeOf b) (lengthOf t (number t b))
+
+  abbrev pub paid : Bool
+  paid = ltb (m .instructions) (j .budget)
 
   -- an instruction of b is completed, and b goes on at place p
   abbrev goesOn : Body → ℕ → Machine
@@ -64,8 +72,9 @@ module _ (j : Job) (s : State) where
     times = timesOf t k;
   }
 
-  unfoldable pub obey : Body → Out
-  obey b = let i = instruction t (number t b) (placeOf b) in perform b (effect (view b) i (meaningOf (i .op)))
+  -- what the instruction of b comes to
+  abbrev pub effectOf : Body → Effect
+  effectOf b = let i : Frame = instruction t (number t b) (placeOf b) in effect (view b) i (meaningOf (i .op))
 
   -- "11 no start: main ended without a start"; "0 quiet, 10 limit: the phase ended so and main reached its end"
   abbrev pub phaseNumber : Stage → ℕ
@@ -81,29 +90,32 @@ module _ (j : Job) (s : State) where
 
   -- The phases -----------------------------------------------------------------------------------------------
 
-  abbrev someRunnable : Bool
+  -- some thread is runnable
+  abbrev pub someRunnable : Bool
   someRunnable = any (runnable t k) (threads t)
 
-  abbrev dispatch : ℕ → Out
+  abbrev pub dispatch : ℕ → Out
   dispatch c = out (dispatched c ∷ []) (goTo (running (thread c)) (chose m))
 
   -- an update runs from its first instruction
-  abbrev enter : ℕ → Out
+  abbrev pub enter : ℕ → Out
   enter u = out [] (goTo (running (update u)) (placed (number t (update u)) 0 m))
 
   -- "After the phase main goes on to its end."
-  abbrev closes : Happening → Out
+  abbrev pub closes : Happening → Out
   closes x = out (x ∷ []) (goTo (running main) m)
 
-  abbrev moveTo : ℕ → Out
+  -- "else time"; "or the time step again if no thread is runnable"
+  abbrev pub timeNext : Out
+  timeNext = to timePhase
+
+  abbrev pub moveTo : ℕ → Out
   moveTo d = out (served t k (at d) ++ (moved d ∷ [])) (goTo turn m)
 
   unfoldable pub stepFrom : Control → Out
   -- "22: an instruction is due and the budget is used up"
   stepFrom (running b) =
-      when ltb (placeOf b) (lengthOf t (number t b))
-      then (when ltb (m .instructions) (j .budget) then obey b else perform b (stops 22))
-      else atEnd b
+      when due b then (when paid then perform b (effectOf b) else perform b (stops 22)) else atEnd b
   -- "Evaluation: while a thread is runnable, the next choice byte names the one dispatched. Then the requested updates run"
   -- "20: choices used up with a thread runnable"; "21: choice names a thread that isn't runnable"
   stepFrom evaluation =
@@ -115,7 +127,7 @@ module _ (j : Job) (s : State) where
   -- "the delta phase: all delta work is done together"
   stepFrom deltaPhase = out (served t k delta) (goTo turn m)
   -- "If a thread is runnable, evaluation follows, else time."
-  stepFrom turn = when someRunnable then to evaluation else to timePhase
+  stepFrom turn = when someRunnable then to evaluation else timeNext
   -- "Time: the least due time of events and threads. None: the phase is quiet. Above the limit: it ends, and time stays.
   -- Otherwise time becomes it, all due then is triggered or freed together, and evaluation follows, or the time step again"
   stepFrom timePhase =

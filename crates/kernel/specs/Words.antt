@@ -1,12 +1,13 @@
 -- Words over histories, the newest happening first. No rule of the kernel is used here.
-use Prim.Native.Nat.{ℕ, _≤_, _<_}
+use Prim.Native.Nat.{ℕ, suc, _^_, _≤_, _<_}
 use mathlib.Core.Path.{_≡_}
 use mathlib.Core.Bool.{Bool, true, false, not, _&&_, _||_}
 use mathlib.Core.Logic.{_⊎_}
 use mathlib.Core.List.{[], _∷_}
 use lib.Dec.{eqb}
-use Rattle.kernel.specs.Search.{Found, none}
-use Rattle.kernel.specs.Design.{Table, Body, main, thread, update, threads, updates}
+use Rattle.laws.specs.Choice.{if_then_else_}
+use Rattle.kernel.specs.Search.{Found, none, found, sum}
+use Rattle.kernel.specs.Design.{Table, Body, main, thread, update, threads, events, updates}
 use Rattle.kernel.specs.Kernel.{Due, never, delta, at, Wait, free, on, till, Deed, nothing, reads, notifies, asks, waits, requests, suspends, resumes, Happening, ran, triggered, freed, resumed, ended, dispatched, finished, began, moved, quiet, limited, History, Stage, before, during, past}
 
 -- a happening's kind and number
@@ -30,9 +31,22 @@ sign quiet = (15, 0)
 sign limited = (16, 0)
 sign (ran b reads) = (17, 0)
 
--- x is y, whoever ran it
+-- x is of y's kind; x is y, whoever ran it
+abbrev pub alike : Happening → Happening → Bool
+alike y x = eqb (sign y .0) (sign x .0)
+
 abbrev pub like : Happening → Happening → Bool
-like y x = eqb (sign y .0) (sign x .0) && eqb (sign y .1) (sign x .1)
+like y x = alike y x && eqb (sign y .1) (sign x .1)
+
+-- x is among these
+pub data Among (x : Happening) : History → Type 0 where
+  newest : {h : History} → Among x (x ∷ h)
+  older : {y : Happening} {h : History} → Among x h → Among x (y ∷ h)
+
+-- g is h, or h at an earlier moment
+pub data Moment (g : History) : History → Type 0 where
+  now : Moment g g
+  ago : {x : Happening} {h : History} → Moment g h → Moment g (x ∷ h)
 
 -- Since --------------------------------------------------------------------------------------------------------
 
@@ -143,6 +157,11 @@ Held i e h = Waits i (on e) h
 abbrev pub Sleeps : ℕ → Due → History → Type 0
 Sleeps i d h = Waits i (till d) h
 
+-- thread i waits for nothing
+pub record Unheld (i : ℕ) (h : History) : Type 0 where
+  pub no-event : (e : ℕ) → Held i e h → ⊥
+  pub no-time : (d : Due) → Sleeps i d h → ⊥
+
 -- Threads and updates ------------------------------------------------------------------------------------------
 
 -- "A thread is runnable when it hasn't ended, waits for nothing and isn't suspended."
@@ -156,6 +175,59 @@ pub record Runnable (t : Table) (h : History) (i : ℕ) : Type 0 where
 pub record Requested (t : Table) (h : History) (u : ℕ) : Type 0 where
   pub there : u < updates t
   pub asked : requested h u ≡ true
+
+-- What is due ----------------------------------------------------------------------------------------------------
+
+-- what can be due: a notification of an event, a thread's wait for a time, a thread's resume
+pub data Work : Type 0 where
+  event : ℕ → Work
+  wait : ℕ → Work
+  resume : ℕ → Work
+
+abbrev pub Within : Table → Work → Type 0
+Within t (event e) = e < events t
+Within t (wait i) = i < threads t
+Within t (resume i) = i < threads t
+
+-- it is due at d; a resume that stands is due in the delta phase
+abbrev pub DueAt : History → Work → Due → Type 0
+DueAt h (event e) d = Pends h e d
+DueAt h (wait i) d = Sleeps i d h
+DueAt h (resume i) d = (resuming h i ≡ true) × (delta ≡ d)
+
+-- the happening that does the work
+abbrev pub serves : Work → Happening
+serves (event e) = triggered e
+serves (wait i) = freed i
+serves (resume i) = resumed i
+
+-- something of the design stands due at d
+pub record Stands (t : Table) (h : History) (d : Due) : Type 0 where
+  pub work : Work
+  pub within : Within t work
+  pub due : DueAt h work d
+
+-- no thread is runnable, no update requested, no delta work pending
+pub record Still (t : Table) (h : History) : Type 0 where
+  pub no-thread : (i : ℕ) → Runnable t h i → ⊥
+  pub no-update : (u : ℕ) → Requested t h u → ⊥
+  pub no-delta : Stands t h delta → ⊥
+
+-- nothing is left
+pub record Nothing (t : Table) (h : History) : Type 0 where
+  pub still : Still t h
+  pub no-due : (u : ℕ) → Stands t h (at u) → ⊥
+
+-- d is the earliest time that stands due, and later than now
+pub record Earliest (t : Table) (h : History) (d : ℕ) : Type 0 where
+  pub still : Still t h
+  pub due : Stands t h (at d)
+  pub first : (u : ℕ) → Stands t h (at u) → d ≤ u
+  pub later : clock h .time < d
+
+abbrev pub Above : ℕ → Found → Type 0
+Above d none = ⊥
+Above d (found l) = l < d
 
 -- The order ----------------------------------------------------------------------------------------------------
 
@@ -190,3 +262,38 @@ pub data Lowest (t : Table) (u : ℕ) : History → Type 0 where
 pub data Underway (t : Table) (i : ℕ) : History → Type 0 where
   starts : {h : History} → Runnable t (dispatched i ∷ h) i → Underway t i (dispatched i ∷ h)
   goes-on : {d : Deed} {h : History} → Underway t i h → Runnable t (ran (thread i) d ∷ h) i → Underway t i (ran (thread i) d ∷ h)
+
+-- What an answer tells -----------------------------------------------------------------------------------------
+
+-- an instruction was completed; "Start counts as completed when the phase begins"
+abbrev pub completes : Happening → Bool
+completes (ran b x) = true
+completes (triggered e) = false
+completes (freed i) = false
+completes (resumed i) = false
+completes (ended i) = false
+completes (dispatched i) = false
+completes (finished u) = false
+completes (began l) = true
+completes (moved t) = false
+completes quiet = false
+completes limited = false
+
+-- how many of what happened pass the test
+unfoldable pub count : (Happening → Bool) → History → ℕ
+count p [] = 0
+count p (x ∷ h) = if p x then suc (count p h) else count p h
+
+-- "instructions completed, choices accepted, inputs taken": each dispatch accepts a choice
+abbrev pub completed : History → ℕ
+completed h = count completes h
+
+abbrev pub accepted : History → ℕ
+accepted h = count (alike (dispatched 0)) h
+
+abbrev pub taken : History → ℕ
+taken h = count (alike (ran main reads)) h
+
+-- "the threads not ended, thread 0 as bit 0"
+abbrev pub unended : Table → History → ℕ
+unended t h = sum (λ i. if hasEnded h i then 0 else 2 ^ i) (threads t)

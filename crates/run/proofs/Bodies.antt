@@ -24,8 +24,7 @@ use Rattle.kernel.specs.Kernel.{Kernel, Deed, nothing, notifies, asks, waits, r
 use Rattle.kernel.specs.Pending.{runnable}
 use Rattle.kernel.specs.Effect.{View, Effect, stops, sets, takes, goes, does, begins, stopIf, setsTo, goesIf, effect}
 use Rattle.kernel.specs.Machine.{Job, Control as Place, running, over, Machine, State, Out, out, goTo, stored, placed, counted}
-use Rattle.kernel.specs.Step.{runsOn, perform, view, advance, step, steps}
-use Rattle.kernel.proofs.Branch.{due, paid, effectOf}
+use Rattle.kernel.specs.Step.{due, paid, runsOn, perform, view, effectOf, advance, step, steps}
 use Rattle.kernel.proofs.Fits.{Fits, fits-step}
 use Rattle.kernel.proofs.Laws.{step-obeys, step-unpaid}
 use Rattle.plain.specs.declared.Eff.{Eff}

@@ -26,6 +26,7 @@ use lib.Dec.{ltb, eqb}
 use Rattle.image.specs.declared.Verdict.{Verdict}
 use Rattle.kernel.specs.Run.{Answer as Told, asked as askedFor, refused, Outcome, notEnded as notEndedOf, ends, outcomeFrom, outcomeOf, bound, runs}
 use Rattle.kernel.specs.Enough.{Over as IsOver}
+use Rattle.kernel.proofs.Search.{sum-same}
 use Rattle.kernel.proofs.Small.{Small, Few, few}
 use Rattle.kernel.proofs.Enough.{steps-add, not-over, final}
 use Rattle.phases.specs.Codes.{forNothing, pendOf, waitOf, suspendedOf, resumingOf, endedOf, threadOf, requestedOf}
@@ -36,7 +37,6 @@ use Rattle.run.specs.declared.Control.the-variants.{Runs, UpdatePhase, D
 use Rattle.run.specs.declared.Now.{Now}
 use Rattle.run.specs.Stands.{Lists, lists, placeOf, limitOf, stageOf, bodyOf, Shows, Counts, Stands, Firsts}
 use Rattle.run.specs.Code.{Code, code, turn, turns, isOver, answerAs, answerFrom, answered, told, jobOf, refusedAt, firstNow, firstRan, started, firstLists, zeroed}
-use Rattle.run.proofs.Obeys.{sum-same}
 use Rattle.run.proofs.Turns.{StandsAt, Reaches, Given, plain-turn, turn-follows}
 use Rattle.run.proofs.Bodies.{PlainRan}
 

@@ -21,9 +21,8 @@ use Rattle.kernel.specs.Kernel.{Due, never, delta, at, earlier, afterDelay, Wai
 use Rattle.kernel.specs.Pending.{isFree, dueOf, isTime, timesOf}
 use Rattle.kernel.specs.Effect.{View, Effect, stops, sets, takes, goes, does, begins, stopIf, takesTo, startsIn, mainPast, isNever, asksFor, effect}
 use Rattle.kernel.specs.Machine.{Job, Control as Place, running, updatePhase, evaluation, over, Machine, State, out}
-use Rattle.kernel.specs.Step.{runsOn, perform, view, advance, step}
-use Rattle.kernel.proofs.Search.{nth-some}
-use Rattle.kernel.proofs.Branch.{effectOf}
+use Rattle.kernel.specs.Step.{runsOn, perform, view, effectOf, advance, step}
+use Rattle.kernel.proofs.Search.{nth-some, sum-same}
 use Rattle.kernel.proofs.Fits.{Fits, fits-step}
 use Rattle.phases.specs.Codes.{lastTime, forNothing, firstEvent, momentOf, pendOf, waitOf, threadOf, requestedOf}
 use Rattle.phases.specs.Phases.{mayRun, pendCount, waitCount, changed, askCode, earlierCode, freedCode, suspendCode, resumeCode}
@@ -82,11 +81,6 @@ never-is : (c : ℕ) → isNever (pendOf c) ≡ ltb lastTime c
 never-is c =
     P.by-size (isNever (pendOf c) ≡ ltb lastTime c) lastTime c (λ h. rw (P.pend-low c h, le-ltb lastTime c h) (moment-pends c))
     (λ h. rw (P.pend-high c h, lt-ltb lastTime c h))
-
-pub sum-same : (f g : ℕ → ℕ) (n : ℕ) → ((i : ℕ) → i < n → f i ≡ g i) → sum f n ≡ sum g n
-unfolding sum
-sum-same f g zero h = refl
-sum-same f g (suc n) h = rw (h n (omega arith), sum-same f g n (λ i l. h i (omega arith)))
 
 times-are : (t : Table) (k : Kernel) (l : Lists) → Shows t k l → timesIn l ≡ timesOf t k
 unfolding timesOf

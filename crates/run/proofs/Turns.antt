@@ -22,8 +22,7 @@ use Rattle.kernel.specs.Kernel.{Kernel, Stage, ending, ended, finished, after, 
 use Rattle.kernel.specs.Pending.{runnable, isRequested}
 use Rattle.kernel.specs.Effect.{stops}
 use Rattle.kernel.specs.Machine.{Job, Control as Place, running, updatePhase, deltaPhase, turn as turnPlace, evaluation, timePhase, over, Machine, State, out, goTo}
-use Rattle.kernel.specs.Step.{perform, phaseNumber as endNumber, advance, step, steps}
-use Rattle.kernel.proofs.Branch.{due, paid}
+use Rattle.kernel.specs.Step.{due, paid, perform, phaseNumber as endNumber, advance, step, steps}
 use Rattle.kernel.proofs.Fits.{Fits, fits-step}
 use Rattle.kernel.specs.Enough.{Over as IsOver}
 use Rattle.kernel.proofs.Enough.{stays}
