@@ -1,0 +1,54 @@
+-- 17 and 23 are given exactly when, and in their order.
+use Prim.Native.Nat.{ℕ}
+use mathlib.Core.Path.{_≡_, refl, sym}
+use mathlib.Core.Bool.{Bool, true, false, _&&_}
+use mathlib.Core.Logic.{_⊎_, inl, inr}
+use native.Mathlib.Omega.{arith}
+use lib.Dec.{ltb, leb}
+use borrow.Author.Tests.{ltb-true, ltb-false, lt-ltb, le-ltb, leb-true, le-leb}
+use Rattle.kernel.specs.Kernel.{Due, never, delta, at, Deed}
+use Rattle.kernel.specs.Effect.{Effect, stops, does, stopIf, asksFor}
+use Rattle.kernel.specs.Asking.{Asking}
+
+two-numbers : {A : Type 0} → stops 17 ≡ stops 23 → A
+two-numbers e = let z : _≡_ {A = ℕ} 17 23 = cc in absurd (omega arith)
+
+no-stop : {A : Type 0} (n : ℕ) (x : Deed) → does x ≡ stops n → A
+no-stop n x e = let z : _≡_ {A = ℕ} 0 1 = cc in absurd (omega arith)
+
+module _ (x : Deed) where
+  -- the time is too late; one is to be added, and 48 stand
+  abbrev comes : Bool → Bool → Bool → Effect
+  comes late adds full = stopIf late 17 (stopIf (adds && full) 23 (does x))
+
+  late-only : (l a b : Bool) → comes l a b ≡ stops 17 → l ≡ true
+  late-only true a b e = refl
+  late-only false true true e = two-numbers (sym e)
+  late-only false true false e = no-stop 17 x e
+  late-only false false b e = no-stop 17 x e
+
+  full-only : (l a b : Bool) → comes l a b ≡ stops 23 → (l ≡ false) × (a ≡ true) × (b ≡ true)
+  full-only true a b e = two-numbers e
+  full-only false true true e = (refl, refl, refl)
+  full-only false true false e = no-stop 23 x e
+  full-only false false b e = no-stop 23 x e
+
+pub asking : (adds : Bool) (n t : ℕ) (x : Deed) → Asking adds n t x
+asking adds n t x = record {
+  too-late = ((λ h. rw (lt-ltb 4294967295 t h)), (λ e. ltb-true 4294967295 t (late-only x (ltb 4294967295 t) adds (leb 48 n) e)));
+  too-many = (
+    (λ h. rw (le-ltb 4294967295 t (h .0), h .1, le-leb 48 n (h .2))),
+    (λ e. let w = full-only x (ltb 4294967295 t) adds (leb 48 n) e in (omega (arith, ltb-false 4294967295 t (w .0)), w .1, leb-true 48 n (w .2))),
+  );
+}
+
+-- either way the instruction asks, or the run stops
+pub asks-or-stops : (adds : Bool) (n : ℕ) (d : Due) (x : Deed) → (asksFor adds n d x ≡ does x) ⊎ ((v : ℕ) × (asksFor adds n d x ≡ stops v))
+asks-or-stops adds n never x = inl refl
+asks-or-stops adds n delta x = inl refl
+asks-or-stops adds n (at t) x = go (ltb 4294967295 t) (adds && leb 48 n)
+  where
+    go : (l f : Bool) → (stopIf l 17 (stopIf f 23 (does x)) ≡ does x) ⊎ ((v : ℕ) × (stopIf l 17 (stopIf f 23 (does x)) ≡ stops v))
+    go true f = inr (17, refl)
+    go false true = inr (23, refl)
+    go false false = inl refl
