@@ -39,8 +39,10 @@ pub record Ripe (t : Table) (h : History) (x : Work) : Type 0 where
 -- what may happen after the history h
 abbrev pub Might : Table → History → Happening → Type 0
 Might t h (ran main x) = Unit {0}
+-- a thread runs from its dispatch until it is no longer runnable, and no other between
 Might t h (ran (thread i) x) = (Runnable t h i) × (Underway t i h)
 Might t h (ran (update u) x) = Next t h u
+-- an event triggers, other than at once, when what pends for it is due; a wait for a time is over when that is due
 Might t h (triggered e) = Ripe t h (event e)
 Might t h (freed i) = Ripe t h (wait i)
 Might t h (resumed i) = Ripe t h (resume i)
@@ -48,7 +50,9 @@ Might t h (ended i) = (Runnable t h i) × (Underway t i h)
 Might t h (dispatched i) = (Runnable t h i) × ((n : ℕ) → Underway t n h → ⊥)
 Might t h (finished u) = Next t h u
 Might t h (began l) = Unit {0}
+-- time moves only when still, forward, to the earliest time that stands due, and not past the limit
 Might t h (moved d) = (Earliest t h d) × (Above d (clock h .limit) → ⊥)
+-- quiet only with nothing left; limit only with the earliest due time above it
 Might t h quiet = Nothing t h
 Might t h limited = (d : ℕ) × (Earliest t h d) × (Above d (clock h .limit))
 
