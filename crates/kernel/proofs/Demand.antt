@@ -9,10 +9,10 @@ use lib.ListN.{length}
 use borrow.Author.Tests.{lt-ltb}
 use Rattle.kernel.specs.Search.{Found, none, found, nth}
 use Rattle.kernel.specs.Design.{Table, threads}
-use Rattle.kernel.specs.Kernel.{delta, at, on, till, Kernel, Happening, dispatched, moved, quiet, limited, History, kernel}
-use Rattle.kernel.specs.Pending.{runnable, above, served}
+use Rattle.kernel.specs.Kernel.{delta, at, on, till, Happening, dispatched, moved, quiet, limited, History, kernel}
+use Rattle.kernel.specs.Pending.{runnable, leastTime, above, served}
 use Rattle.kernel.specs.Machine.{Job, Control, deltaPhase, turn, evaluation, timePhase, over, State, Out, init}
-use Rattle.kernel.specs.Step.{someRunnable, advance, stepFrom, step, steps}
+use Rattle.kernel.specs.Step.{someRunnable, moveTo, advance, stepFrom, step, steps}
 use Rattle.kernel.specs.Words.{sign, Among, newest, clock, Runnable, Work, event, wait, resume, serves, Still, Nothing, Earliest, Above, accepted}
 use Rattle.kernel.specs.Demand.{Might, Rightly, InPhase, added, Serves, Time, choice, SomeRunnable, Chooses, Comes, Kept, Demand}
 use Rattle.kernel.proofs.Search.{any-none}
@@ -58,9 +58,6 @@ module _ (j : Job) (s : State) (i : Inv j s) where
   abbrev h : History
   h = s .history
 
-  abbrev k : Kernel
-  k = kernel h
-
   right : Rightly t h
   right = i .sound .rightly
 
@@ -69,52 +66,55 @@ module _ (j : Job) (s : State) (i : Inv j s) where
 
   module _ (e : s .machine .control ≡ timePhase) where
     to-quiet : Nothing t h → step j s .history ≡ quiet ∷ h
-    to-quiet n = ap (λ (x : State). x .history) (step-quiets j s e (due-none t k (λ u w. n .no-due u (pending-stands t h (at u) (at-never u) w))))
+    to-quiet n = ap (λ (x : State). x .history) (step-quiets j s e (due-none t (kernel h) (λ u w. n .no-due u (pending-stands t h (at u) (at-never u) w))))
+
+    least-is : (d : ℕ) → Earliest t h d → leastTime t (kernel h) ≡ found d
+    least-is d n = due-found t (kernel h) d (stands-pending t h (at d) right (n .due)) (λ u w. n .first u (pending-stands t h (at u) (at-never u) w))
 
     to-limited : (d : ℕ) → Earliest t h d → Above d (clock h .limit) → step j s .history ≡ limited ∷ h
     to-limited d n a =
         ap (λ (x : State). x .history) (step-limits j s d e
-        (due-found t k d (stands-pending t h (at d) right (n .due)) (λ u w. n .first u (pending-stands t h (at u) (at-never u) w)))
-        (above-is d (k .limit) (rw (limit-now h) a)))
+        (least-is d n)
+        (above-is d (kernel h .limit) (rw (limit-now h) a)))
 
-    abbrev moveTo : ℕ → History
-    moveTo d = served t k (at d) ++ (moved d ∷ [])
+    abbrev move : ℕ → History
+    move d = moveTo j s d .happens
 
     adds : added j s ≡ stepFrom j s timePhase .happens
     adds = ap (λ (c : Control). stepFrom j s c .happens) e
 
-    to-moved : (d : ℕ) → Earliest t h d → (Above d (clock h .limit) → ⊥) → added j s ≡ moveTo d
+    to-moved : (d : ℕ) → Earliest t h d → (Above d (clock h .limit) → ⊥) → added j s ≡ move d
     to-moved d n a =
         adds ∙ ap (λ (o : Out). o .happens) (from-branch j s timePhase _ (B.moves d
-        (due-found t k d (stands-pending t h (at d) right (n .due)) (λ u w. n .first u (pending-stands t h (at u) (at-never u) w)))
-        (above-not d (k .limit) (λ w. a (rw (← limit-now h) w)))))
+        (least-is d n)
+        (above-not d (kernel h .limit) (λ w. a (rw (← limit-now h) w)))))
 
     -- only a move adds a move
-    was-moved : (d : ℕ) (o : Out) → Branch j s timePhase o → Among (moved d) (o .happens) → o .happens ≡ moveTo d
+    was-moved : (d : ℕ) (o : Out) → Branch j s timePhase o → Among (moved d) (o .happens) → o .happens ≡ move d
     was-moved d o (B.quiets q) y = absurd (quiet-moves d (among-one (moved d) quiet y))
     was-moved d o (B.limits v p q) y = absurd (limit-moves d (among-one (moved d) limited y))
-    was-moved d o (B.moves v p q) y = go (among-split (moved d) (served t k (at v)) (moved v ∷ []) y)
+    was-moved d o (B.moves v p q) y = go (among-split (moved d) (served t (kernel h) (at v)) (moved v ∷ []) y)
       where
-        go : Among (moved d) (served t k (at v)) ⊎ Among (moved d) (moved v ∷ []) → moveTo v ≡ moveTo d
-        go (inl a) = let w = among-served t k (at v) (moved d) a in absurd (no-work d (w .0) (w .3))
+        go : Among (moved d) (served t (kernel h) (at v)) ⊎ Among (moved d) (moved v ∷ []) → move v ≡ move d
+        go (inl a) = let w = among-served t (kernel h) (at v) (moved d) a in absurd (no-work d (w .0) (w .3))
         go (inr a) = let z : d ≡ v = ap (λ (x : Happening). sign x .1) (among-one (moved d) (moved v) a) in rw z
 
-    moved-as : (d : ℕ) → Among (moved d) (added j s) → added j s ≡ moveTo d
+    moved-as : (d : ℕ) → Among (moved d) (added j s) → added j s ≡ move d
     moved-as d y = adds ∙ was-moved d (stepFrom j s timePhase) (branch j s timePhase) (subst (Among (moved d)) adds y)
 
     moved-might : (d : ℕ) → Among (moved d) (added j s) → Might t h (moved d)
     unfolding step
     moved-might d y =
-        let r : Rightly t (served t k (at d) ++ (moved d ∷ h)) = subst (Rightly t) (ap (λ (x : History). x ++ h) (moved-as d y) ∙ append-assoc (served t k (at d)) (moved d ∷ []) h) (inv-step j s i .sound .rightly) in
-        rightly-at t (moved d ∷ h) (served t k (at d) ++ (moved d ∷ h)) (moment-since (served t k (at d)) (moved d ∷ h)) r .1
+        let r : Rightly t (served t (kernel h) (at d) ++ (moved d ∷ h)) = subst (Rightly t) (ap (λ (x : History). x ++ h) (moved-as d y) ∙ append-assoc (served t (kernel h) (at d)) (moved d ∷ []) h) (inv-step j s i .sound .rightly) in
+        rightly-at t (moved d ∷ h) (served t (kernel h) (at d) ++ (moved d ∷ h)) (moment-since (served t (kernel h) (at d)) (moved d ∷ h)) r .1
 
     serves-at : (d : ℕ) → Among (moved d) (added j s) → Serves j s (at d)
     serves-at d y x =
-        let a : added j s ≡ moveTo d = moved-as d y in
+        let a : added j s ≡ move d = moved-as d y in
         let w = serves-due t h (at d) (at-never d) right x in
-        ((λ v. subst (Among (serves x)) (sym a) (among-left (serves x) (served t k (at d)) (moved d ∷ []) (w .0 v))), (λ z. w .1 (go (among-split (serves x) (served t k (at d)) (moved d ∷ []) (subst (Among (serves x)) a z)))))
+        ((λ v. subst (Among (serves x)) (sym a) (among-left (serves x) (served t (kernel h) (at d)) (moved d ∷ []) (w .0 v))), (λ z. w .1 (go (among-split (serves x) (served t (kernel h) (at d)) (moved d ∷ []) (subst (Among (serves x)) a z)))))
       where
-        go : Among (serves x) (served t k (at d)) ⊎ Among (serves x) (moved d ∷ []) → Among (serves x) (served t k (at d))
+        go : Among (serves x) (served t (kernel h) (at d)) ⊎ Among (serves x) (moved d ∷ []) → Among (serves x) (served t (kernel h) (at d))
         go (inl z) = z
         go (inr z) = absurd (no-work d x (sym (among-one (serves x) (moved d) z)))
 
@@ -122,7 +122,7 @@ module _ (j : Job) (s : State) (i : Inv j s) where
     time-of = record {
       ends-quiet = (to-quiet, happened quiet);
       ends-limited = ((λ w. to-limited (w .0) (w .1) (w .2)), happened limited);
-      moves = λ d. ((λ w. subst (Among (moved d)) (sym (to-moved d (w .0) (w .1))) (among-right (moved d) (served t k (at d)) (moved d ∷ []) newest)), moved-might d);
+      moves = λ d. ((λ w. subst (Among (moved d)) (sym (to-moved d (w .0) (w .1))) (among-right (moved d) (served t (kernel h) (at d)) (moved d ∷ []) newest)), moved-might d);
       serves-then = serves-at;
     }
 
@@ -136,7 +136,7 @@ module _ (j : Job) (s : State) (i : Inv j s) where
       where
         go : (b : Bool) → someRunnable j s ≡ b → someRunnable j s ≡ true
         go true q = q
-        go false q = absurd (true≢false (sym (runnable-runs t h (w .0) (w .1)) ∙ any-none (runnable t k) (threads t) q (w .0) (w .1 .there)))
+        go false q = absurd (true≢false (sym (runnable-runs t h (w .0) (w .1)) ∙ any-none (runnable t (kernel h)) (threads t) q (w .0) (w .1 .there)))
 
     -- what the step came to tells which branch it took
     was-dispatched : (c : ℕ) (o : Out) → Branch j s evaluation o → advance s o .history ≡ dispatched c ∷ h → choice j h ≡ found c
@@ -171,7 +171,7 @@ module _ (j : Job) (s : State) (i : Inv j s) where
         (λ q. was-20 (stepFrom j s evaluation) (branch j s evaluation) (sym (ap (λ (x : State). x .machine .control) stepped) ∙ q)),
       );
       refused = (
-        (λ w. ap (λ (x : State). x .machine .control) (step-refuses j s (w .0) e (some (w .3)) (same ∙ w .1) (not-true (runnable t k (w .0)) (λ q. w .2 (runs-runnable t h (w .0) right q))))),
+        (λ w. ap (λ (x : State). x .machine .control) (step-refuses j s (w .0) e (some (w .3)) (same ∙ w .1) (not-true (runnable t (kernel h) (w .0)) (λ q. w .2 (runs-runnable t h (w .0) right q))))),
         (λ q. was-21 (stepFrom j s evaluation) (branch j s evaluation) (sym (ap (λ (x : State). x .machine .control) stepped) ∙ q)),
       );
     }
