@@ -1,16 +1,12 @@
--- What can happen, and what the kernel is after it. Document 01, "The kernel".
+-- What the kernel is after what happened. Document 01, "The kernel".
 use Prim.Native.Nat.{ℕ, zero, suc, _+_}
 use mathlib.Core.Bool.{Bool, true, false, not, _&&_}
-use mathlib.Core.List.{List, [], _∷_}
+use mathlib.Core.List.{[], _∷_}
 use lib.Dec.{eqb, leb}
 use Rattle.laws.specs.Choice.{if_then_else_}
 use Rattle.kernel.specs.Search.{Found, none, edit}
-use Rattle.kernel.specs.Design.{Body, main, thread, update}
-
--- "An event pends for nothing, for the delta phase, or for a due time."
-pub data Due : Type 0 where
-  never delta : Due
-  at : ℕ → Due
+use Rattle.kernel.specs.Design.{main, thread, update}
+pub use Rattle.kernel.specs.History.{Due, never, delta, at, Wait, free, on, till, Stage, before, during, past, Deed, nothing, reads, notifies, asks, waits, requests, suspends, resumes, Happening, ran, triggered, freed, resumed, ended, dispatched, finished, began, moved, quiet, limited, History}
 
 -- "The earlier one stays; delta is earlier than any time."
 abbrev pub earlier : Due → Due → Due
@@ -25,22 +21,11 @@ abbrev pub afterDelay : ℕ → ℕ → Due
 afterDelay now zero = delta
 afterDelay now (suc n) = at (now + suc n)
 
--- a thread waits for nothing, for an event, or for a due time
-pub data Wait : Type 0 where
-  free : Wait
-  on : ℕ → Wait
-  till : Due → Wait
-
 pub record Thread : Type 0 where
   pub wait : Wait
   pub suspended : Bool
   pub resuming : Bool
   pub ended : Bool
-
--- before the phase; in it; after it, with the number that it ended with
-pub data Stage : Type 0 where
-  before during : Stage
-  past : ℕ → Stage
 
 -- the kernel as it stands
 pub record Kernel : Type 0 where
@@ -50,34 +35,6 @@ pub record Kernel : Type 0 where
   pub now : ℕ
   pub limit : Found
   pub stage : Stage
-
--- what an instruction does to others than its own body: nothing; it takes the next input; or what it asks of the kernel
-pub data Deed : Type 0 where
-  nothing reads : Deed
-  notifies : ℕ → Deed
-  asks : ℕ → Due → Deed
-  waits : Wait → Deed
-  requests : ℕ → Deed
-  suspends : ℕ → Deed
-  resumes : ℕ → Deed
-
--- what happens: an instruction of a body is completed, and what the kernel does by itself
-pub data Happening : Type 0 where
-  ran : Body → Deed → Happening
-  triggered : ℕ → Happening
-  freed : ℕ → Happening
-  resumed : ℕ → Happening
-  ended : ℕ → Happening
-  dispatched : ℕ → Happening
-  finished : ℕ → Happening
-  began : Found → Happening
-  moved : ℕ → Happening
-  quiet : Happening
-  limited : Happening
-
--- the newest first
-abbrev pub History : Type 0
-History = List Happening
 
 abbrev pub fresh : Thread
 fresh = record { wait = free; suspended = false; resuming = false; ended = false }

@@ -1,5 +1,6 @@
 pub mod Search
 pub mod Design
+pub mod History
 pub mod Kernel
 pub mod Pending
 pub mod Effect

@@ -1,4 +1,4 @@
--- Words over histories, the newest happening first. No rule of the kernel is used here.
+-- Words over histories, the newest happening first. No mark of the machine and no rule of the kernel is used here.
 use Prim.Native.Nat.{ℕ, suc, _^_, _≤_, _<_}
 use mathlib.Core.Path.{_≡_}
 use mathlib.Core.Bool.{Bool, true, false, not, _&&_, _||_}
@@ -8,7 +8,7 @@ use lib.Dec.{eqb}
 use Rattle.laws.specs.Choice.{if_then_else_}
 use Rattle.kernel.specs.Search.{Found, none, found, sum}
 use Rattle.kernel.specs.Design.{Table, Body, main, thread, update, threads, events, updates}
-use Rattle.kernel.specs.Kernel.{Due, never, delta, at, Wait, free, on, till, Deed, nothing, reads, notifies, asks, waits, requests, suspends, resumes, Happening, ran, triggered, freed, resumed, ended, dispatched, finished, began, moved, quiet, limited, History, Stage, before, during, past}
+use Rattle.kernel.specs.History.{Due, never, delta, at, Wait, free, on, till, Deed, nothing, reads, notifies, asks, waits, requests, suspends, resumes, Happening, ran, triggered, freed, resumed, ended, dispatched, finished, began, moved, quiet, limited, History, Stage, before, during, past}
 
 -- a happening's kind and number
 abbrev pub sign : Happening → ℕ × ℕ
