@@ -12,3 +12,4 @@ pub mod Enough
 pub mod Marked
 pub mod Words
 pub mod Demand
+pub mod Looms
