@@ -2,30 +2,29 @@
 use Prim.Native.Nat.{ℕ, suc}
 use mathlib.Core.Path.{_≡_, refl, ap, _∙_, sym, subst}
 use mathlib.Core.Bool.{Bool, true, false, true≢false}
-use mathlib.Core.Logic.{_⊎_, inl, inr}
 use mathlib.Core.List.{[], _∷_, _++_, append-assoc}
 use native.Mathlib.Omega.{arith}
 use lib.ListN.{length}
 use borrow.Author.Tests.{lt-ltb}
 use Rattle.kernel.specs.Search.{Found, none, found, nth}
 use Rattle.kernel.specs.Design.{Table, threads}
-use Rattle.kernel.specs.Kernel.{delta, at, on, till, Happening, dispatched, moved, quiet, limited, History, kernel}
+use Rattle.kernel.specs.Kernel.{at, on, till, Happening, dispatched, moved, quiet, limited, History, kernel}
 use Rattle.kernel.specs.Pending.{runnable, leastTime, above, served}
-use Rattle.kernel.specs.Machine.{Job, Control, deltaPhase, turn, evaluation, timePhase, over, State, Out, init}
+use Rattle.kernel.specs.Machine.{Job, Control, turn, evaluation, timePhase, over, State, Out, init}
 use Rattle.kernel.specs.Step.{someRunnable, moveTo, advance, stepFrom, step, steps}
-use Rattle.kernel.specs.Words.{sign, Among, newest, clock, Runnable, Work, event, wait, resume, serves, Still, Nothing, Earliest, Above, accepted}
-use Rattle.kernel.specs.Demand.{Might, Rightly, InPhase, added, Serves, Time, choice, SomeRunnable, Chooses, Comes, Kept, Demand}
+use Rattle.kernel.specs.Words.{Among, newest, clock, Runnable, Still, Nothing, Earliest, Above, accepted}
+use Rattle.kernel.specs.Demand.{Might, Rightly, InPhase, added, Time, choice, SomeRunnable, Chooses, Comes, Kept, Demand}
 use Rattle.kernel.proofs.Search.{any-none}
 use Rattle.kernel.proofs.Branch as B
 use Rattle.kernel.proofs.Branch.{Branch, branch}
 use Rattle.kernel.proofs.Laws.{steps-last, from-branch, step-by, step-unchosen, step-refuses, step-dispatches, step-quiets, step-limits}
 use Rattle.kernel.proofs.Words.{pends, pends-one, on-waits, waits-on, runs-runnable, runnable-runs, limit-now}
-use Rattle.kernel.proofs.Due.{Pending, delta-never, at-never, stands-pending, pending-stands, due-none, due-found}
+use Rattle.kernel.proofs.Due.{Pending, at-never, stands-pending, pending-stands, due-none, due-found}
 use Rattle.kernel.proofs.Ahead.{Ahead}
 use Rattle.kernel.proofs.Rightly.{Standing, above-true, some-runnable, Inv, inv-step, inv-steps, inv-init}
 use Rattle.kernel.proofs.Comes.{not-true, ComesToTime, come}
 use Rattle.kernel.proofs.Moments.{moment-since, rightly-at, time-forth, frees-at}
-use Rattle.kernel.proofs.Serves.{among-left, among-right, among-split, among-one, among-served, serves-due}
+use Rattle.kernel.proofs.Serves.{among-right, moved-as, serves-when}
 use Rattle.kernel.proofs.Told.{tells, told-of, why-of, answered-run}
 
 -- no history is its own beginning
@@ -38,18 +37,6 @@ above-is d (found l) a = lt-ltb l d a
 
 above-not : (d : ℕ) (f : Found) → (Above d f → ⊥) → above d f ≡ false
 above-not d f n = not-true (above d f) (λ q. n (above-true d f q))
-
--- an end of the phase is no move of time, and no work is one
-quiet-moves : (d : ℕ) → moved d ≡ quiet → ⊥
-quiet-moves d e = let z : _≡_ {A = ℕ} 14 15 = ap (λ (x : Happening). sign x .0) e in omega arith
-
-limit-moves : (d : ℕ) → moved d ≡ limited → ⊥
-limit-moves d e = let z : _≡_ {A = ℕ} 14 16 = ap (λ (x : Happening). sign x .0) e in omega arith
-
-no-work : (d : ℕ) (x : Work) → moved d ≡ serves x → ⊥
-no-work d (event i) e = let z : _≡_ {A = ℕ} 14 7 = ap (λ (x : Happening). sign x .0) e in omega arith
-no-work d (wait i) e = let z : _≡_ {A = ℕ} 14 8 = ap (λ (x : Happening). sign x .0) e in omega arith
-no-work d (resume i) e = let z : _≡_ {A = ℕ} 14 9 = ap (λ (x : Happening). sign x .0) e in omega arith
 
 module _ (j : Job) (s : State) (i : Inv j s) where
   abbrev t : Table
@@ -89,41 +76,17 @@ module _ (j : Job) (s : State) (i : Inv j s) where
         (least-is d n)
         (above-not d (kernel h .limit) (λ w. a (rw (← limit-now h) w)))))
 
-    -- only a move adds a move
-    was-moved : (d : ℕ) (o : Out) → Branch j s timePhase o → Among (moved d) (o .happens) → o .happens ≡ move d
-    was-moved d o (B.quiets q) y = absurd (quiet-moves d (among-one (moved d) quiet y))
-    was-moved d o (B.limits v p q) y = absurd (limit-moves d (among-one (moved d) limited y))
-    was-moved d o (B.moves v p q) y = go (among-split (moved d) (served t (kernel h) (at v)) (moved v ∷ []) y)
-      where
-        go : Among (moved d) (served t (kernel h) (at v)) ⊎ Among (moved d) (moved v ∷ []) → move v ≡ move d
-        go (inl a) = let w = among-served t (kernel h) (at v) (moved d) a in absurd (no-work d (w .0) (w .3))
-        go (inr a) = let z : d ≡ v = ap (λ (x : Happening). sign x .1) (among-one (moved d) (moved v) a) in rw z
-
-    moved-as : (d : ℕ) → Among (moved d) (added j s) → added j s ≡ move d
-    moved-as d y = adds ∙ was-moved d (stepFrom j s timePhase) (branch j s timePhase) (subst (Among (moved d)) adds y)
-
     moved-might : (d : ℕ) → Among (moved d) (added j s) → Might t h (moved d)
     unfolding step
     moved-might d y =
-        let r : Rightly t (served t (kernel h) (at d) ++ (moved d ∷ h)) = subst (Rightly t) (ap (λ (x : History). x ++ h) (moved-as d y) ∙ append-assoc (served t (kernel h) (at d)) (moved d ∷ []) h) (inv-step j s i .sound .rightly) in
+        let r : Rightly t (served t (kernel h) (at d) ++ (moved d ∷ h)) = subst (Rightly t) (ap (λ (x : History). x ++ h) (moved-as j s d y) ∙ append-assoc (served t (kernel h) (at d)) (moved d ∷ []) h) (inv-step j s i .sound .rightly) in
         rightly-at t (moved d ∷ h) (served t (kernel h) (at d) ++ (moved d ∷ h)) (moment-since (served t (kernel h) (at d)) (moved d ∷ h)) r .1
-
-    serves-at : (d : ℕ) → Among (moved d) (added j s) → Serves j s (at d)
-    serves-at d y x =
-        let a : added j s ≡ move d = moved-as d y in
-        let w = serves-due t h (at d) (at-never d) right x in
-        ((λ v. subst (Among (serves x)) (sym a) (among-left (serves x) (served t (kernel h) (at d)) (moved d ∷ []) (w .0 v))), (λ z. w .1 (go (among-split (serves x) (served t (kernel h) (at d)) (moved d ∷ []) (subst (Among (serves x)) a z)))))
-      where
-        go : Among (serves x) (served t (kernel h) (at d)) ⊎ Among (serves x) (moved d ∷ []) → Among (serves x) (served t (kernel h) (at d))
-        go (inl z) = z
-        go (inr z) = absurd (no-work d x (sym (among-one (serves x) (moved d) z)))
 
     time-of : Time j s
     time-of = record {
       ends-quiet = (to-quiet, happened quiet);
       ends-limited = ((λ w. to-limited (w .0) (w .1) (w .2)), happened limited);
       moves = λ d. ((λ w. subst (Among (moved d)) (sym (to-moved d (w .0) (w .1))) (among-right (moved d) (served t (kernel h) (at d)) (moved d ∷ []) newest)), moved-might d);
-      serves-then = serves-at;
     }
 
   module _ (e : s .machine .control ≡ evaluation) (c : s .machine .choices ≡ accepted h) where
@@ -200,10 +163,6 @@ module _ (j : Job) (s : State) (i : Inv j s) (l : InPhase (s .machine .control))
       let c : ComesToTime j s = to-time (n .still) in
       comes-with limited c (time-of j (Then c) (inv-steps j (c .after) s i) (c .there) .ends-limited .0 (d, rw (c .same) n, rw (c .same) a))
 
-delta-of : (j : Job) (s : State) → Inv j s → s .machine .control ≡ deltaPhase → Serves j s delta
-unfolding stepFrom
-delta-of j s i e x = rw e (serves-due (j .table) (s .history) delta delta-never (i .sound .rightly) x)
-
 kept : (j : Job) (n : ℕ) → Kept j (steps j n (init j))
 kept j n =
     let s : State = steps j n (init j) in
@@ -214,7 +173,7 @@ kept j n =
       one-pends = pends (s .history);
       no-other = pends-one (s .history);
       rightly = r;
-      delta-serves = delta-of j s i;
+      serves-when = serves-when j s r;
       served = λ e. let g : Standing (j .table) (s .history) turn = subst (Standing (j .table) (s .history)) e (i .sound .standing) in (g .2, g .3);
       ahead = λ u w.
           let p : Pending (j .table) (kernel (s .history)) (at u) = stands-pending (j .table) (s .history) (at u) r w in

@@ -79,16 +79,16 @@ InPhase (over n b p) = ⊥
 abbrev pub added : Job → State → History
 added j s = stepFrom j s (s .machine .control) .happens
 
--- the next step does the work that is due at d, all of it and no other
-abbrev pub Serves : Job → State → Due → Type 0
-Serves j s d = (x : Work) → ((Within (j .table) x) × (DueAt (s .history) x d)) ↔ Among (serves x) (added j s)
+-- what is due at d comes in the next step: that is the delta phase's, or moves time to d
+pub data Coming (j : Job) (s : State) : Due → Type 0 where
+  in-phase : s .machine .control ≡ deltaPhase → Coming j s delta
+  with-time : (d : ℕ) → Among (moved d) (added j s) → Coming j s (at d)
 
--- at the time phase: it ends as quiet, or as limit, or time moves to d, exactly when; and what is due at d is served exactly then
+-- at the time phase: it ends as quiet, or as limit, or time moves to d, exactly when
 pub record Time (j : Job) (s : State) : Type 0 where
   pub ends-quiet : Nothing (j .table) (s .history) ↔ (step j s .history ≡ quiet ∷ s .history)
   pub ends-limited : ((d : ℕ) × (Earliest (j .table) (s .history) d) × (Above d (clock (s .history) .limit))) ↔ (step j s .history ≡ limited ∷ s .history)
   pub moves : (d : ℕ) → ((Earliest (j .table) (s .history) d) × (Above d (clock (s .history) .limit) → ⊥)) ↔ Among (moved d) (added j s)
-  pub serves-then : (d : ℕ) → Among (moved d) (added j s) → Serves j s (at d)
 
 -- the next choice, if one is left
 abbrev pub choice : Job → History → Found
@@ -137,8 +137,10 @@ pub record Kept (j : Job) (s : State) : Type 0 where
   -- whatever happened came when it might: an event triggered, a wait for a time was over and a resume took effect when due; time moved
   -- with nothing else to do, to the earliest time due; the phase ended as quiet with nothing left, as limit with that time above it
   pub rightly : Rightly (j .table) (s .history)
-  -- and whatever is due comes: the delta phase triggers, frees and resumes all that is due in it, and no other (for times see `time`)
-  pub delta-serves : s .machine .control ≡ deltaPhase → Serves j s delta
+  -- an event triggers (unless at once), a wait for a time is over and a resume takes effect exactly when due: in the delta phase, or
+  -- at the time moved to
+  pub serves-when : (x : Work) → ((Within (j .table) x) × ((d : Due) × (Coming j s d) × (DueAt (s .history) x d))) ↔ Among (serves x) (added j s)
+  -- so nothing due is left behind
   pub served : s .machine .control ≡ turn → ((u : ℕ) → Requested (j .table) (s .history) u → ⊥) × (Stands (j .table) (s .history) delta → ⊥)
   pub ahead : (u : ℕ) → Stands (j .table) (s .history) (at u) → clock (s .history) .time < u
   -- a thread that waits for an event is held exactly from its wait to the event's next trigger, suspended or not; so for a wait for a time

@@ -1,5 +1,4 @@
 -- The two looms: document 01's whole job, where main besides notifies event 1 before the start. What happens, by computation, and who is held at the end.
-use Prim.Native.Nat.{ℕ}
 use mathlib.Core.Path.{_≡_, refl}
 use mathlib.Core.List.{[], _∷_}
 use Rattle.frame.specs.Ops.{meaningOf}
