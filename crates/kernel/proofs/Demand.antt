@@ -18,7 +18,7 @@ use Rattle.kernel.proofs.Search.{any-none}
 use Rattle.kernel.proofs.Branch as B
 use Rattle.kernel.proofs.Branch.{Branch, branch}
 use Rattle.kernel.proofs.Laws.{steps-last, from-branch, step-by, step-unchosen, step-refuses, step-dispatches, step-quiets, step-limits}
-use Rattle.kernel.proofs.Words.{pends, pends-one, on-waits, waits-on, runs-runnable, runnable-runs, limit-now}
+use Rattle.kernel.proofs.Words.{pends, pends-one, on-waits, waits-on, thread-ended, thread-suspended, thread-resuming, runs-runnable, runnable-runs, wants-requested, requested-wants, time-now, limit-now, stage-now}
 use Rattle.kernel.proofs.Due.{Pending, at-never, stands-pending, pending-stands, due-none, due-found}
 use Rattle.kernel.proofs.Ahead.{Ahead}
 use Rattle.kernel.proofs.Rightly.{Standing, above-true, some-runnable, Inv, inv-step, inv-steps, inv-init}
@@ -180,6 +180,16 @@ kept j n =
           subst (Ahead (clock (s .history) .time)) (p .due) (i .sound .later (p .work) (p .within));
       holds = λ a e. (on-waits (s .history) a (on e) refl, waits-on (j .table) (s .history) a (on e) refl r);
       sleeps = λ a d. (on-waits (s .history) a (till d) refl, waits-on (j .table) (s .history) a (till d) refl r);
+      marks = record {
+        ended = thread-ended (s .history);
+        suspended = thread-suspended (s .history);
+        resuming = thread-resuming (s .history);
+        runs = λ a. (runs-runnable (j .table) (s .history) a r, runnable-runs (j .table) (s .history) a);
+        requested = λ u. (wants-requested (j .table) (s .history) u, requested-wants (j .table) (s .history) u);
+        now = time-now (s .history);
+        limit = limit-now (s .history);
+        stage = stage-now (s .history);
+      };
       frees = λ x g m a w. frees-at (j .table) x g (rightly-at (j .table) (x ∷ g) (s .history) m r) a w;
       never-back = λ g m. time-forth (j .table) g (s .history) m r;
       time = λ e. time-of j s i e;

@@ -107,7 +107,7 @@ unfolding kernel since
 thread-ended [] i = refl
 thread-ended (x ∷ h) i = rw (← thread-ended h i) (marks x i (kernel h) .1 .0)
 
-thread-suspended : (h : History) (i : ℕ) → kernel h .threads i .suspended ≡ suspended h i
+pub thread-suspended : (h : History) (i : ℕ) → kernel h .threads i .suspended ≡ suspended h i
 unfolding kernel since
 thread-suspended [] i = refl
 thread-suspended (x ∷ h) i = rw (← thread-suspended h i, ← thread-ended h i) (marks x i (kernel h) .1 .1)

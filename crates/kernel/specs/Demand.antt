@@ -10,10 +10,11 @@ use Rattle.image.specs.Judge.{judged}
 use Rattle.kernel.specs.Search.{Found, none, found, nth}
 use Rattle.kernel.specs.Design.{Table, main, thread, update, threads, updates}
 use Rattle.kernel.specs.Kernel.{Due, delta, at, Wait, on, till, Happening, ran, triggered, freed, resumed, ended, dispatched, finished, began, moved, quiet, limited, History, before, past, kernel}
+use Rattle.kernel.specs.Pending.{runnable, isRequested}
 use Rattle.kernel.specs.Machine.{Job, Control, running, updatePhase, deltaPhase, turn, evaluation, timePhase, over, State, init}
 use Rattle.kernel.specs.Step.{stepFrom, step, steps}
 use Rattle.kernel.specs.Run.{Answer, outcomeOf, bound, mostChoices, mostInputs, asked}
-use Rattle.kernel.specs.Words.{Among, Moment, clock, InStage, Pends, endsWait, Waits, Held, Sleeps, Unheld, Runnable, Requested, Work, event, wait, resume, Within, DueAt, serves, Stands, Nothing, Earliest, Above, Lull, Lowest, Underway, completed, accepted, taken, unended}
+use Rattle.kernel.specs.Words.{Among, Moment, hasEnded, suspended as isSuspended, resuming as isResuming, clock, InStage, Pends, endsWait, Waits, Held, Sleeps, Unheld, Runnable, Requested, Work, event, wait, resume, Within, DueAt, serves, Stands, Nothing, Earliest, Above, Lull, Lowest, Underway, completed, accepted, taken, unended}
 
 -- What may happen --------------------------------------------------------------------------------------------------
 
@@ -75,6 +76,17 @@ InPhase evaluation = Unit {0}
 InPhase timePhase = Unit {0}
 InPhase (over n b p) = ⊥
 
+-- the kernel's other marks are what the words say
+pub record Marks (t : Table) (h : History) : Type 0 where
+  pub ended : (i : ℕ) → kernel h .threads i .ended ≡ hasEnded h i
+  pub suspended : (i : ℕ) → kernel h .threads i .suspended ≡ isSuspended h i
+  pub resuming : (i : ℕ) → kernel h .threads i .resuming ≡ isResuming h i
+  pub runs : (i : ℕ) → (runnable t (kernel h) i ≡ true) ↔ Runnable t h i
+  pub requested : (u : ℕ) → (isRequested t (kernel h) u ≡ true) ↔ Requested t h u
+  pub now : kernel h .now ≡ clock h .time
+  pub limit : kernel h .limit ≡ clock h .limit
+  pub stage : kernel h .stage ≡ clock h .stage
+
 -- what the next step adds to the history, the newest first
 abbrev pub added : Job → State → History
 added j s = stepFrom j s (s .machine .control) .happens
@@ -129,7 +141,7 @@ pub data Why (j : Job) (h : History) : (n b p : ℕ) → Type 0 where
 
 -- The theorem ------------------------------------------------------------------------------------------------------
 
--- In a state of a run, with a field for each sentence. Where a field names the kernel's marks, it says that they are what the words say.
+-- In a state of a run, with a field for each sentence. Where a field names a mark of the kernel, it says that the mark is what the words say.
 pub record Kept (j : Job) (s : State) : Type 0 where
   -- one notification pends for an event, the earliest asked for since the event last triggered
   pub one-pends : (e : ℕ) → Pends (s .history) e (kernel (s .history) .pends e)
@@ -146,6 +158,7 @@ pub record Kept (j : Job) (s : State) : Type 0 where
   -- a thread that waits for an event is held exactly from its wait to the event's next trigger, suspended or not; so for a wait for a time
   pub holds : (i e : ℕ) → (kernel (s .history) .threads i .wait ≡ on e) ↔ Held i e (s .history)
   pub sleeps : (i : ℕ) (d : Due) → (kernel (s .history) .threads i .wait ≡ till d) ↔ Sleeps i d (s .history)
+  pub marks : Marks (j .table) (s .history)
   -- a thread that was freed has nothing left of that wait, or of any other
   pub frees : (x : Happening) (g : History) → Moment (x ∷ g) (s .history) → (i : ℕ) (w : Wait) → Waits i w g → endsWait i w x ≡ true → Unheld i (x ∷ g)
   -- time never goes backwards
