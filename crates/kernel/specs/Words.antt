@@ -13,6 +13,7 @@ use Rattle.kernel.specs.History.{Due, never, delta, at, Wait, free, on, 
 -- a happening's kind and number
 abbrev pub sign : Happening → ℕ × ℕ
 sign (ran b nothing) = (0, 0)
+sign (ran b reads) = (17, 0)
 sign (ran b (notifies e)) = (1, e)
 sign (ran b (asks e d)) = (2, e)
 sign (ran b (waits w)) = (3, 0)
@@ -29,7 +30,6 @@ sign (began l) = (13, 0)
 sign (moved t) = (14, t)
 sign quiet = (15, 0)
 sign limited = (16, 0)
-sign (ran b reads) = (17, 0)
 
 -- x is of y's kind; x is y, whoever ran it
 abbrev pub alike : Happening → Happening → Bool
