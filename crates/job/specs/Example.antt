@@ -13,7 +13,7 @@ use Rattle.kernel.specs.Kernel.{kernel, after}
 use Rattle.kernel.specs.Pending.{leastTime, timesOf, served}
 use Rattle.kernel.specs.Effect.{effect}
 use Rattle.kernel.specs.Machine.{when_then_else_, given_orElse_take_}
-use Rattle.kernel.specs.Step.{perform, obey, atEnd, stepFrom, step, steps}
+use Rattle.kernel.specs.Step.{perform, atEnd, stepFrom, step, steps}
 use Rattle.kernel.specs.Run.{runs, asked}
 use Rattle.job.specs.JobLines.{lineLength, ended, budgetOf, numbersFrom, numbersOf}
 use Rattle.job.specs.Printing.{field, stopFields, countFields, answerLine, cellLines, shown}
@@ -54,5 +54,5 @@ wholeAnswer =
     0x30 ∷ 0x30 ∷ 0x30 ∷ 0x30 ∷ 0x30 ∷ 0x30 ∷ 0x30 ∷ 0x30 ∷ 0x0a ∷ []
 
 pub whole-job : printed wholeJob ≡ wholeAnswer
-unfolding digitValue digits value numberAt digitOf hex usesOf meaningOf fits instructionFault counts bodies len lengths firstLine dueFrames bodyFrom bodyAt kindOf headerFits bodyFits headerFault bodyFault fault ending look judged lineAt framesFrom frames more settled reading nth any first least sum each kernel after leastTime timesOf served effect when_then_else_ given_orElse_take_ perform obey atEnd stepFrom step steps runs asked lineLength ended budgetOf numbersFrom numbersOf field stopFields countFields answerLine cellLines shown fromTable fromImage fromInputs fromChoices printed
+unfolding digitValue digits value numberAt digitOf hex usesOf meaningOf fits instructionFault counts bodies len lengths firstLine dueFrames bodyFrom bodyAt kindOf headerFits bodyFits headerFault bodyFault fault ending look judged lineAt framesFrom frames more settled reading nth any first least sum each kernel after leastTime timesOf served effect when_then_else_ given_orElse_take_ perform atEnd stepFrom step steps runs asked lineLength ended budgetOf numbersFrom numbersOf field stopFields countFields answerLine cellLines shown fromTable fromImage fromInputs fromChoices printed
 whole-job = refl
