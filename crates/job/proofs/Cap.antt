@@ -4,13 +4,13 @@ use mathlib.Core.Path.{_≡_, refl, sym, ap, _∙_}
 use mathlib.Core.Bool.{Bool, true, false, _&&_}
 use mathlib.Core.List.{List, [], _∷_}
 use native.Mathlib.Omega.{arith}
-use borrow.Author.Tests.{ltb-true, ltb-false, leb-true, leb-false, lt-ltb, le-ltb, le-leb, lt-leb, eqb-true, eq-eqb, ne-eqb}
+use borrow.Author.Tests.{ltb-true, ltb-false, leb-true, leb-false, lt-ltb, le-ltb, le-leb, lt-leb, eqb-true, ne-eqb}
 use lib.Dec.{eqb, ltb, leb}
-use lib.ListN.{length, getD, take, drop, replicate, length-take}
+use lib.ListN.{length, take, drop, replicate, length-take}
 use lib.Seq.{getD-take, take-nil}
-use Rattle.laws.specs.Choice.{if_then_else_, and-left, and-right}
+use Rattle.laws.specs.Choice.{if_then_else_}
 use Rattle.laws.specs.Lists.{over}
-use Rattle.hex.specs.Hex.{digitValue, digits, value, numberAt}
+use Rattle.hex.specs.Hex.{digits, value, numberAt}
 use Rattle.hex.specs.declared.Number.{Number}
 use Rattle.hex.specs.declared.Number.the-variants.{Is, Malformed}
 use Rattle.image.specs.Limits.{mostLines}
@@ -18,8 +18,8 @@ use Rattle.image.specs.Judge.{Said, say, judged}
 use Rattle.lines.specs.Text.{lineAt, before as frameBefore, framesFrom, frames, more, settled, Outcome, outcome, readAs, reading}
 use Rattle.lines.proofs.Cap.{looking, same-answer, same-frames}
 use Rattle.kernel.specs.Run.{mostChoices, mostInputs}
-use Rattle.job.specs.JobLines.{lineLength, ended, afterLine, budgetOf, Numbers, these, malformed, before, numbersFrom, numbersOf}
-use Rattle.job.specs.Whole.{byImage, fromImage, byInputs, fromInputs, byChoices, fromChoices, byBudget, printed}
+use Rattle.job.specs.JobLines.{lineLength, ended, afterLine, budgetOf, Numbers, these, malformed, numbersFrom, numbersOf}
+use Rattle.job.specs.Whole.{byImage, fromImage, byInputs, fromInputs, byChoices, fromChoices, byBudget, printed, longestJob}
 
 -- tests against two bounds that agree
 leb-same : (x y z : ℕ) → (x ≤ y → x ≤ z) → (x ≤ z → x ≤ y) → leb x y ≡ leb x z
@@ -306,10 +306,6 @@ module _ (c : ℕ) (text : List ℕ) where
 
     printed-take : printed (take c text) ≡ printed text
     printed-take = by-first (leb c (lineLength text)) refl
-
--- the bytes of the longest job, which are those of its three lines and of its image, and one more
-abbrev pub longestJob : ℕ
-longestJob = 9 + (2 * mostChoices + 1) + (8 * mostInputs + 1) + 17 * mostLines + 1
 
 pub past-the-job : (text : List ℕ) → printed (take longestJob text) ≡ printed text
 past-the-job text = printed-take longestJob text (omega arith)

@@ -1,5 +1,5 @@
 -- Laws of the printed text, as the code writes it. Assumes nothing.
-use Prim.Native.Nat.{ℕ, zero, suc, _+_, _*_, _≤_, _<_}
+use Prim.Native.Nat.{ℕ, suc, _+_, _*_, _≤_, _<_}
 use mathlib.Core.Path.{_≡_, refl, sym, ap, _∙_}
 use mathlib.Core.Bool.{Bool, true, false}
 use mathlib.Core.List.{List, [], _∷_, _++_, append-nil}
@@ -15,7 +15,7 @@ use Rattle.hex.specs.Hex.{hex, written}
 use Rattle.hex.specs.Laws.{length-hex}
 use Rattle.kernel.specs.Run.{Answer}
 use Rattle.job.specs.Printing.{field, stopFields, countFields, answerLine, cellLines, shown}
-use Rattle.job.specs.Whole.{Written, wrote, put}
+use Rattle.job.specs.Whole.{wrote, put}
 
 -- how long things are
 length-field : (n x end : ℕ) → length (field n x end) ≡ n + 1

@@ -18,7 +18,7 @@ use Rattle.hex.specs.declared.Number.{Number}
 use Rattle.hex.specs.declared.Number.the-variants.{Is, Malformed}
 use Rattle.job.specs.JobLines.{lineLength, ended, budgetOf, Numbers, these, malformed, before, numbersFrom, numbersOf}
 use Rattle.job.specs.declared.Listed.{Listed}
-use Rattle.job.specs.declared.Listed.the-variants.{Count, Broken}
+use Rattle.job.specs.declared.Listed.the-variants.{Count}
 use Rattle.job.specs.Steps.{listed}
 
 -- a line's length

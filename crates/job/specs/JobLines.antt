@@ -1,6 +1,6 @@
 -- The lines of a job: "line 0, the budget in eight digits; line 1, the choices, two digits each; line 2, the inputs, eight digits each".
 use Prim.Native.Nat.{ℕ, zero, suc, _+_, _*_, _/_, _%_}
-use mathlib.Core.Bool.{Bool, true, false, _&&_}
+use mathlib.Core.Bool.{Bool, _&&_}
 use mathlib.Core.List.{List, [], _∷_}
 use lib.Dec.{eqb, ltb, leb}
 use lib.ListN.{length, drop}

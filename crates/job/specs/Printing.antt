@@ -2,14 +2,12 @@
 -- space between; then, unless refused, each of the C cells as eight digits on a line."
 use Prim.Native.Nat.{ℕ, _+_, _*_}
 use mathlib.Core.List.{List, [], _∷_, _++_}
-use lib.ListN.{length}
 use Rattle.laws.specs.Choice.{if_then_else_, between}
-use Rattle.laws.specs.Lists.{over}
 use Rattle.hex.specs.Hex.{hex}
 use Rattle.image.specs.Limits.{mostCells}
 use Rattle.kernel.specs.Run.{Answer, refused}
 
--- the n digits of x, and the byte after them: a space, or 0a at a line's end
+-- x "as n digits", and the byte after them: "with one space between", or 0a at a line's end
 unfoldable pub field : (n x end : ℕ) → List ℕ
 field n x end = hex n x ++ end ∷ []
 
@@ -25,6 +23,7 @@ countFields a =
 unfoldable pub answerLine : Answer → List ℕ
 answerLine a = stopFields a ++ countFields a
 
+-- "each of the C cells as eight digits on a line"
 unfoldable pub cellLines : List ℕ → List ℕ
 cellLines [] = []
 cellLines (x ∷ xs) = field 8 x 0x0a ++ cellLines xs

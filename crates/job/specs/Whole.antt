@@ -1,5 +1,6 @@
--- "The program and one job whole": from a job's bytes to the printed ones.
-use Prim.Native.Nat.{ℕ}
+-- "The program and one job whole": from a job's bytes to the printed ones. `printed`, below, takes the job's lines in document 01's order;
+-- each stage stands above the one that hands over to it.
+use Prim.Native.Nat.{ℕ, _+_, _*_}
 use mathlib.Core.List.{List}
 use lib.Dec.{eqb, ltb}
 use lib.ListN.{length, take, replicate}
@@ -16,14 +17,15 @@ use Rattle.run.specs.Code.{jobOf}
 use Rattle.job.specs.JobLines.{afterLine, budgetOf, Numbers, these, malformed, numbersOf}
 use Rattle.job.specs.Printing.{shown, refusal, mostPrinted}
 
--- the run, on 256 cells; "each of the C cells", which are the first
+-- what is printed of a run: "then, unless refused, each of the C cells", which are the first
 abbrev pub firstCells : ℕ → Ran → List ℕ
 firstCells c r = shown (r .answer) (take c (r .cells))
 
+-- the run, on cells as many as a design has at the most
 unfoldable pub fromTable : Job → List ℕ
 fromTable j = firstCells (cells (j .table)) (asked j (replicate mostCells 0))
 
--- "then the image": as it is read into 1,058 words, whose first ones are its frames; else the number and the line of its fault
+-- "then the image": a read into 1,058 words answers 0 with the count of frames, which are the first words; else it is refused
 abbrev pub byImage : (budget : ℕ) → (choices inputs : List ℕ) → Read → List ℕ
 byImage b cs is r =
     if eqb (r .says .number) 0 then fromTable (jobOf (take (r .says .line) (r .buffer)) cs is b)
@@ -56,6 +58,10 @@ byBudget Malformed rest = refusal 9 0
 
 unfoldable pub printed : List ℕ → List ℕ
 printed job = byBudget (budgetOf job) (afterLine job)
+
+-- the bytes of the longest job, which are those of its three lines and of its image, and one more; what stands past them changes nothing
+abbrev pub longestJob : ℕ
+longestJob = 9 + (2 * mostChoices + 1) + (8 * mostInputs + 1) + 17 * mostLines + 1
 
 -- the count of bytes written, and the lent buffer afterwards
 pub record Written : Type 0 where
