@@ -16,7 +16,7 @@ int main(int argc, char **argv) {
   const uint64_t jobs = argc > 1 ? std::stoull(argv[1]) : DEFAULT_JOBS;
   const uint64_t seed = argc > 2 ? std::stoull(argv[2]) : 1;
   std::cout << "seed " << seed << ", " << jobs << " random jobs\n";
-  Tally tally(std::filesystem::path(argv[0]).parent_path().string());
+  Tally tally(std::filesystem::absolute(argv[0]).lexically_normal().parent_path().string());
   const auto sweep = [&tally](const char *kind, void (*all)(const Take &)) {
     uint64_t n = 0;
     all([&](const Made &made) { tally.take(kind, "sweep-" + std::to_string(n++), made); });

@@ -40,6 +40,16 @@ Made counts(uint32_t threads, uint32_t cells, uint32_t length, uint32_t number, 
   return {case_of(plan.table()), {Verdict{0, frames}, Verdict{0, frames}, Verdict{0, 17 * frames}, {}}};
 }
 
+// All counts at their limits, 1,058 lines, with so many frames too many.
+Made largest(uint32_t extra) {
+  Plan plan(16, 32, 16, 256);
+  plan.bodies[0].assign(1024, set(255, 1));
+  std::vector<uint64_t> table = plan.table();
+  table.insert(table.end(), extra, table.back());
+  if (extra > 0) return {case_of(table), faulty(7, 1058)};
+  return {case_of(table), {Verdict{0, 1058}, Verdict{0, 1058}, Verdict{0, 17 * 1058}, {}}};
+}
+
 } // namespace
 
 void cut_images(const Take &take) {
@@ -118,6 +128,8 @@ void both_sides(const Take &take) {
   take(counts(0, 257, 0, 2, 0));
   take(counts(0, 1, 1024, 0, 0));
   take(counts(0, 1, 1025, 3, 1));
+  take(largest(0));
+  take(largest(1));
   take({text_case(""), {Verdict{6, 0}, {}, {}, {}}});
 }
 
