@@ -110,6 +110,7 @@ std::vector<JobFile> damaged_files(Random &r, std::size_t count) {
 std::vector<JobFile> long_files() {
   const std::string much(3000000, '0');
   return {{looms_lines + looms_image + much, refused(7, 9), std::nullopt},
+          {looms_lines + looms_image + much, refused(7, 9), std::nullopt}, // an odd number: through a pipe
           {much, refused(9, 0), std::nullopt},
           {"00000064\n" + much, refused(9, 1), std::nullopt},
           {"00000064\n" + much + "\n\n" + looms_image, refused(9, 1), std::nullopt},

@@ -21,8 +21,12 @@ std::vector<Printed> run_program(const std::string &program, const std::vector<s
   std::filesystem::remove_all(folder);
   std::filesystem::create_directories(folder);
   for (std::size_t i = 0; i < inputs.size(); ++i) std::ofstream(folder + '/' + std::to_string(i) + ".job", std::ios::binary) << inputs[i];
+  // Every other job comes through a pipe, in pieces.
   std::ofstream(folder + "/all.sh") << "for job in *.job; do\n"
-                                    << "  '" << program << "' <$job >${job%.job}.out 2>${job%.job}.err\n"
+                                    << "  case $job in\n"
+                                    << "  *[13579].job) cat $job | '" << program << "' >${job%.job}.out 2>${job%.job}.err ;;\n"
+                                    << "  *) '" << program << "' <$job >${job%.job}.out 2>${job%.job}.err ;;\n"
+                                    << "  esac\n"
                                     << "  echo $? >${job%.job}.status\n"
                                     << "done\n";
   const std::string command = "cd '" + folder + "' && timeout 300 sh all.sh 2>shell.err";

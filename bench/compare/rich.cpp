@@ -169,10 +169,12 @@ Made at_the_limits(Random &r) {
   const bool lasting = r.chance(300); // all choices are taken then, mostly
   for (uint32_t k = 0; k < 16; ++k) plan.bodies[1 + k] = lasting ? pacer_code(r, plan) : thread_code(r, plan, r.between(20, 40));
   for (uint32_t u = 0; u < 15; ++u) plan.bodies[17 + u] = update_code(r, plan, r.between(0, 10));
+  for (Frame &f : plan.bodies[0])
+    if (lasting && f.op == 0x67) f = start();
   plan.bodies[32] = update_code(r, plan, 1024 - static_cast<uint32_t>(plan.instructions()));
   Made made{case_of(plan.table()), {}};
   made.job.job.inputs = any_inputs(r, 1024);
-  made.job.job.budget = r.between(0, 40000);
+  made.job.job.budget = lasting ? 200000 : r.between(0, 40000);
   follow(r, made.job, 4096, false);
   made.job.job.choices.resize(r.chance(500) ? 4096 : made.job.job.choices.size());
   known_well_formed(made);
