@@ -3,3 +3,4 @@ pub mod Puts
 pub mod Stages
 pub mod Unique
 pub mod Cap
+pub mod Longest

@@ -9,7 +9,7 @@ use borrow.Author.Tests.{le-leb, lt-leb}
 use lib.Dec.{leb}
 use lib.ListN.{length, getD, set, drop, length-append}
 use lib.Seq.{sets, drop-cons}
-use Rattle.laws.specs.Choice.{if_then_else_, between}
+use Rattle.laws.specs.Choice.{between}
 use Rattle.laws.specs.Lists.{over, drop-all, stored, sets-append}
 use Rattle.hex.specs.Hex.{hex, written}
 use Rattle.hex.specs.Laws.{length-hex}
