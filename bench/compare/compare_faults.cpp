@@ -4,53 +4,56 @@
 #include "drawn.hpp"
 #include "reduce.hpp"
 
-#include "../independent/planted.hpp"
+#include "planted.hpp"
 
+#include <exception>
 #include <iostream>
 #include <string>
 
-#ifndef PLANTED_RULES
-#error "this program needs -DPLANTED_RULES"
-#endif
-
 namespace {
 
-using independent::Rule;
-
-struct Planted {
-  Rule rule;
-  const char *words;
-};
-
-#define PLANTED_ROW(name, words) {Rule::name, words},
-const std::vector<Planted> rules = {PLANTED_RUN_RULES(PLANTED_ROW)};
-#undef PLANTED_ROW
+using namespace compare;
 
 constexpr uint64_t most_jobs = 200000; // as many as the comparison draws
 
-bool found(const Planted &planted, uint64_t seed) {
-  independent::planted = planted.rule;
-  for (uint64_t i = 0; i < most_jobs; ++i) {
-    const compare::Drawn drawn = compare::drawn_job(seed, i);
-    const auto difference = compare::difference(drawn.made.job, drawn.made.expected);
-    if (!difference) continue;
-    const compare::Case small = compare::reduced(
-        drawn.made.job, [](const compare::Case &c) { return compare::difference(c).has_value(); }, 2000);
-    std::cout << "found after " << i + 1 << " jobs: " << planted.words << " (" << drawn.kind->name << ", " << difference->call << ": "
-              << difference->what << "; reduced to " << small.job.table.size() << " frames, " << small.job.choices.size() << " choices)\n";
-    return true;
-  }
-  std::cout << "FAILED: not found: " << planted.words << '\n';
-  return false;
+struct Noticed {
+  uint64_t jobs;
+  std::string how;
+};
+
+std::string told(const Drawn &drawn, const Difference &difference) {
+  const Case small = reduced(
+      drawn.made.job, [](const Case &c) { return compare::difference(c).has_value(); }, 2000);
+  return drawn.kind->name + ", " + difference.call + ": " + difference.what + "; reduced to " + std::to_string(small.job.table.size()) +
+         " frames, " + std::to_string(small.job.choices.size()) + " choices";
+}
+
+// A wrong rule may also make the simulator itself fail while it is asked for choices.
+std::optional<Noticed> noticed(uint64_t seed) {
+  for (uint64_t i = 0; i < most_jobs; ++i) try {
+      const Drawn drawn = drawn_job(seed, i);
+      const auto difference = compare::difference(drawn.made.job, drawn.made.expected);
+      if (difference) return Noticed{i + 1, told(drawn, *difference)};
+    } catch (const std::exception &failure) {
+      return Noticed{i + 1, std::string("the simulator failed: ") + failure.what()};
+    }
+  return std::nullopt;
 }
 
 } // namespace
 
 int main(int argc, char **argv) {
   const uint64_t seed = argc > 1 ? std::stoull(argv[1]) : 1;
-  std::cout << "seed " << seed << ", " << rules.size() << " wrong rules\n";
+  std::cout << "seed " << seed << ", " << independent::first_job_rule << " wrong rules\n";
   int passed = 0, failed = 0;
-  for (const Planted &planted : rules) found(planted, seed) ? ++passed : ++failed;
+  for (std::size_t rule = 0; rule < independent::first_job_rule; ++rule) {
+    independent::planted_rule = rule;
+    const std::optional<Noticed> found = noticed(seed);
+    found ? ++passed : ++failed;
+    std::cout << (found ? "found after " + std::to_string(found->jobs) + " jobs: " : "FAILED: not found: ")
+              << independent::wrong_rules[rule];
+    std::cout << (found ? " (" + found->how + ")\n" : "\n");
+  }
   std::cout << passed << " passed, " << failed << " failed\n";
   return failed == 0 ? 0 : 1;
 }

@@ -6,17 +6,13 @@
 #include "reduce.hpp"
 
 #include "../independent/job.hpp"
-#include "../independent/planted.hpp"
+#include "planted.hpp"
 
 #include <filesystem>
 #include <fstream>
 #include <functional>
 #include <iostream>
 #include <stdexcept>
-
-#ifndef PLANTED_RULES
-#error "this program needs -DPLANTED_RULES"
-#endif
 
 namespace {
 
@@ -77,10 +73,6 @@ void compare_group(Group &group, const std::string &program, const std::string &
                               std::to_string(differences) + " differences");
 }
 
-#define PLANTED_ROW(name, words) {independent::Rule::name, words},
-const std::vector<std::pair<independent::Rule, const char *>> rules = {PLANTED_JOB_RULES(PLANTED_ROW)};
-#undef PLANTED_ROW
-
 bool noticed(const std::vector<Group> &groups) {
   for (const Group &group : groups)
     for (std::size_t i = 0; i < group.files.size(); ++i)
@@ -107,10 +99,9 @@ int main(int argc, char **argv) try {
                                {"random jobs", "-random.job", drawn_files(seed, jobs), {}}};
   for (Group &group : groups) compare_group(group, program, folder);
   const bool alike = failed == 0; // else a planted rule would not be what is noticed
-  for (const auto &[rule, words] : rules) {
-    if (!alike) break;
-    independent::planted = rule;
-    check(noticed(groups), std::string("a wrong rule is noticed: ") + words);
+  for (std::size_t rule = independent::first_job_rule; alike && rule < independent::wrong_rule_count; ++rule) {
+    independent::planted_rule = rule;
+    check(noticed(groups), std::string("a wrong rule is noticed: ") + independent::wrong_rules[rule]);
   }
   std::cout << passed << " passed, " << failed << " failed\n";
   return failed == 0 ? 0 : 1;

@@ -1,7 +1,6 @@
 #include "design.hpp"
 
 #include "limits.hpp"
-#include "planted.hpp"
 
 namespace independent {
 
@@ -17,10 +16,8 @@ uint32_t Inspector::take(uint64_t number) {
 
 // Number 2, for whatever is wrong with a header.
 uint32_t Inspector::take_header(const Frame &f) {
-  const uint32_t least_cells = wrong(Rule::no_cells_pass) ? 0 : 1;
-  const uint32_t threads_allowed = wrong(Rule::seventeen_threads_pass) ? 17 : most_threads;
-  if (f.op != 0xa0 || f.d > threads_allowed || f.a > most_events || f.b > most_updates) return 2;
-  if (f.imm < least_cells || f.imm > most_cells) return 2;
+  if (f.op != 0xa0 || f.d > most_threads || f.a > most_events || f.b > most_updates) return 2;
+  if (f.imm < 1 || f.imm > most_cells) return 2;
   design_ = {f.d, f.a, f.b, f.imm, {}};
   bodies_due_ = 1 + f.d + f.b;
   header_taken_ = true;
@@ -30,10 +27,9 @@ uint32_t Inspector::take_header(const Frame &f) {
 // Number 3, for whatever is wrong with a body frame. The lengths count as they come: the frame that takes them past the limit is at fault.
 uint32_t Inspector::take_body(const Frame &f) {
   if (f.op != 0xa1) return 3;
-  if ((f.d | f.a | f.b) != 0) return wrong(Rule::body_fields_are_5) ? 5 : 3;
+  if ((f.d | f.a | f.b) != 0) return 3;
   lengths_ += f.imm;
-  if (wrong(Rule::lengths_wrap)) lengths_ %= 0x1'0000'0000;
-  if (lengths_ > most_instructions + (wrong(Rule::instructions_1025_pass) ? 1 : 0)) return 3;
+  if (lengths_ > most_instructions) return 3;
   design_.bodies.push_back({kind_of(design_.bodies.size()), f.imm, {}});
   if (design_.bodies.size() == bodies_due_) skip_full_bodies();
   return 0;
@@ -46,7 +42,6 @@ uint32_t Inspector::take_instruction(const Frame &f) {
   if (op == nullptr) return 4;
   const bool fields_fit =
       fits(op->d, f.d, f, body) && fits(op->a, f.a, f, body) && fits(op->b, f.b, f, body) && fits(op->imm, f.imm, f, body);
-  if (!fields_fit && wrong(Rule::fields_before_op)) return 5;
   if (!may_hold(body.kind, f.op)) return 4;
   if (!fields_fit) return 5;
   body.code.push_back(f);
@@ -56,19 +51,15 @@ uint32_t Inspector::take_instruction(const Frame &f) {
 
 bool Inspector::fits(Use use, uint32_t field, const Frame &f, const Body &body) const {
   switch (use) {
-  case Use::unused: return field == 0 || wrong(Rule::unused_fields_pass);
+  case Use::unused: return field == 0;
   case Use::cell: return field < design_.cells;
   case Use::event: return field < design_.events;
   case Use::update: return field < design_.updates;
   case Use::thread: return field < design_.threads;
   case Use::number: return true;
-  case Use::target: return wrong(Rule::goto_end_is_5) ? field < body.length : field <= body.length;
+  case Use::target: return field <= body.length;
   case Use::length: return field >= 1;
-  case Use::region: {
-    uint64_t end = uint64_t{f.imm} + f.b;
-    if (wrong(Rule::region_wraps)) end %= 0x1'0000'0000;
-    return end <= design_.cells;
-  }
+  case Use::region: return uint64_t{f.imm} + f.b <= design_.cells;
   }
   return false;
 }

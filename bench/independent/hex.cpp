@@ -1,13 +1,10 @@
 #include "hex.hpp"
 
-#include "planted.hpp"
-
 namespace independent {
 
 namespace {
 
 const std::string lower_case = "0123456789abcdef";
-const std::string upper_case = "0123456789ABCDEF";
 
 } // namespace
 
@@ -15,8 +12,7 @@ std::optional<uint64_t> hex_number(const std::string &bytes, std::size_t at, std
   if (at > bytes.size() || bytes.size() - at < digits) return std::nullopt;
   uint64_t number = 0;
   for (std::size_t i = at; i < at + digits; ++i) {
-    std::size_t value = lower_case.find(bytes[i]);
-    if (value == std::string::npos && wrong(Rule::upper_case_passes)) value = upper_case.find(bytes[i]);
+    const std::size_t value = lower_case.find(bytes[i]);
     if (value == std::string::npos) return std::nullopt;
     number = number * 16 + value;
   }

@@ -2,7 +2,6 @@
 
 #include "hex.hpp"
 #include "limits.hpp"
-#include "planted.hpp"
 
 namespace independent {
 
@@ -10,11 +9,8 @@ namespace {
 
 // The frame of the line at that offset, or nothing unless sixteen digits and 0a stand there.
 std::optional<uint64_t> line_at(const std::string &bytes, std::size_t at) {
-  if (bytes.size() < at + line_bytes) {
-    if (!wrong(Rule::last_0a_may_miss) || bytes.size() != at + 16) return std::nullopt;
-  } else if (bytes[at + 16] != '\n') {
-    return std::nullopt;
-  }
+  if (bytes.size() < at + line_bytes) return std::nullopt;
+  if (bytes[at + 16] != '\n') return std::nullopt;
   return hex_number(bytes, at, 16);
 }
 
@@ -29,14 +25,14 @@ Verdict judge(const std::vector<uint64_t> &table, Design *design) {
     if (fault != 0) return {fault, taken};
   }
   if (inspector.due()) return {6, taken};
-  if (taken < table.size()) return {7, wrong(Rule::extra_at_the_end) ? static_cast<uint32_t>(table.size()) : taken};
+  if (taken < table.size()) return {7, taken};
   if (design != nullptr) *design = inspector.design();
   return {0, taken};
 }
 
 // The paragraph on reading: room before all else; then line by line, its form before its meaning. What follows the last line is 7 unseen.
 Read read(const std::string &bytes, std::size_t room_in_words) {
-  if (room_in_words < most_lines && !wrong(Rule::room_after_faults)) return {{8, 0}, {}};
+  if (room_in_words < most_lines) return {{8, 0}, {}};
   Inspector inspector;
   std::vector<uint64_t> words;
   while (inspector.due()) {
@@ -50,18 +46,13 @@ Read read(const std::string &bytes, std::size_t room_in_words) {
     words.push_back(*frame);
   }
   const auto count = static_cast<uint32_t>(words.size());
-  if (bytes.size() > line_bytes * count) {
-    const bool looked_at = wrong(Rule::extra_is_looked_at) && !line_at(bytes, line_bytes * count);
-    return {{looked_at ? 1u : 7u, count}, {}};
-  }
-  if (room_in_words < most_lines) return {{8, 0}, {}};
+  if (bytes.size() > line_bytes * count) return {{7, count}, {}};
   return {{0, count}, words};
 }
 
 // The same paragraph on writing: here the room is looked at last.
 Written write(const std::vector<uint64_t> &table, std::size_t room_in_bytes) {
   const std::size_t needed = line_bytes * table.size();
-  if (wrong(Rule::write_room_first) && room_in_bytes < needed) return {{8, 0}, {}};
   const Verdict verdict = judge(table);
   if (verdict.number != 0) return {verdict, {}};
   if (room_in_bytes < needed) return {{8, 0}, {}};

@@ -3,7 +3,6 @@
 #include "hex.hpp"
 #include "image.hpp"
 #include "limits.hpp"
-#include "planted.hpp"
 #include "run.hpp"
 
 namespace independent {
@@ -18,12 +17,7 @@ public:
   // The next line without its 0a, or nothing where no 0a follows.
   std::optional<std::string> next() {
     const std::size_t end = input_.find('\n', at_);
-    if (end == std::string::npos) {
-      if (!wrong(Rule::job_line_without_0a) || at_ == input_.size()) return std::nullopt;
-      const std::string last = input_.substr(at_);
-      at_ = input_.size();
-      return last;
-    }
+    if (end == std::string::npos) return std::nullopt;
     const std::string line = input_.substr(at_, end - at_);
     at_ = end + 1;
     return line;
@@ -52,11 +46,8 @@ template <typename Number> std::optional<std::vector<Number>> numbers(Lines &lin
 // The answer's eight numbers on one line and, where the run wasn't refused, a line for each cell.
 std::string printed(const Outcome &outcome) {
   const Answer &a = outcome.answer;
-  const std::string number = wrong(Rule::number_in_decimal) && a.number < 100
-                                 ? std::to_string(a.number / 10) + std::to_string(a.number % 10)
-                                 : hex_digits(a.number, 2);
-  std::string text = number + ' ' + hex_digits(a.body, 2) + ' ' + hex_digits(a.place, 4) + ' ' + hex_digits(a.time, 8) + ' ' +
-                     hex_digits(a.instructions, 8) + ' ' + hex_digits(a.choices, 4) + ' ' + hex_digits(a.inputs, 4) + ' ' +
+  std::string text = hex_digits(a.number, 2) + ' ' + hex_digits(a.body, 2) + ' ' + hex_digits(a.place, 4) + ' ' + hex_digits(a.time, 8) +
+                     ' ' + hex_digits(a.instructions, 8) + ' ' + hex_digits(a.choices, 4) + ' ' + hex_digits(a.inputs, 4) + ' ' +
                      hex_digits(a.threads, 4) + '\n';
   for (uint32_t cell : outcome.cells) text += hex_digits(cell, 8) + '\n';
   return text;
@@ -71,14 +62,14 @@ std::string refused(uint32_t number, uint32_t line) { return printed({{number, 0
 std::string answer_job(const std::string &input) {
   Lines lines(input);
   const auto budget = numbers<uint32_t>(lines, 8, 1);
-  if (!budget || (budget->empty() && !wrong(Rule::empty_budget_passes))) return refused(9, 0);
-  const auto choices = numbers<uint8_t>(lines, 2, most_choices + (wrong(Rule::choices_4097_pass) ? 1 : 0));
+  if (!budget || budget->empty()) return refused(9, 0);
+  const auto choices = numbers<uint8_t>(lines, 2, most_choices);
   if (!choices) return refused(9, 1);
   const auto inputs = numbers<uint32_t>(lines, 8, most_inputs);
-  if (!inputs) return refused(9, wrong(Rule::bad_inputs_at_line_3) ? 3 : 2);
+  if (!inputs) return refused(9, 2);
   const Read image = read(lines.rest(), most_lines);
   if (image.verdict.number != 0) return refused(image.verdict.number, image.verdict.line);
-  return printed(run({budget->empty() ? 0 : budget->front(), *choices, *inputs, image.words}, most_cells));
+  return printed(run({budget->front(), *choices, *inputs, image.words}, most_cells));
 }
 
 } // namespace independent

@@ -2,7 +2,6 @@
 
 #include "arithmetic.hpp"
 #include "limits.hpp"
-#include "planted.hpp"
 
 #include <algorithm>
 
@@ -41,24 +40,16 @@ uint32_t Kernel::runnable_threads() const {
 uint32_t Kernel::living_threads() const {
   uint32_t mask = 0;
   for (uint32_t k = 0; k < threads.size(); ++k)
-    if (!threads[k].ended || wrong(Rule::mask_shows_all)) mask |= 1u << (wrong(Rule::thread_bits_reversed) ? threads.size() - 1 - k : k);
+    if (!threads[k].ended) mask |= 1u << k;
   return mask;
 }
 
-void Kernel::wait_for_event(uint32_t thread, uint32_t event) {
-  if (wrong(Rule::notify_is_remembered) && events[event].remembered) {
-    events[event].remembered = false;
-    return;
-  }
-  threads[thread].waiting = AnEvent{event};
-}
+void Kernel::wait_for_event(uint32_t thread, uint32_t event) { threads[thread].waiting = AnEvent{event}; }
 
 // The rule on waits for a time: 0 lasts until the coming delta phase, anything else has a due time counted from now.
 void Kernel::wait_for_time(uint32_t thread, uint32_t value) {
   if (value == 0) {
-    if (wrong(Rule::wait_0_is_no_wait)) return;
-    if (wrong(Rule::wait_0_is_due_now)) threads[thread].waiting = DueTime{now};
-    else threads[thread].waiting = DeltaPhase{};
+    threads[thread].waiting = DeltaPhase{};
     return;
   }
   const uint32_t due = due_time_after(value);
@@ -68,7 +59,7 @@ void Kernel::wait_for_time(uint32_t thread, uint32_t value) {
 
 // The rule on events, its immediate case: the pending notification is gone, and those who wait now are freed now.
 void Kernel::notify_at_once(uint32_t event) {
-  if (!wrong(Rule::kept_past_notify_at_once)) events[event].pending = Nothing{};
+  events[event].pending = Nothing{};
   trigger(event);
 }
 
@@ -78,16 +69,13 @@ void Kernel::notify_after(uint32_t event, uint32_t delay) {
   Pending &pending = events[event].pending;
   const std::optional<uint32_t> standing = due_time(pending);
   if (delay == 0) {
-    if (wrong(Rule::time_before_delta) && standing) return;
     pending = DeltaPhase{};
     return;
   }
-  if (wrong(Rule::no_17_where_earlier_stays) && !is<Nothing>(pending) && now + uint64_t{delay} > last_time) return;
-  if (wrong(Rule::n23_before_17) && due_times_standing() == most_due_times && now + uint64_t{delay} > last_time) throw Stop{23};
   const uint32_t due = due_time_after(delay);
-  if (is<DeltaPhase>(pending) && !wrong(Rule::time_replaces_delta)) return;
-  if (standing && *standing <= due && !wrong(Rule::later_replaces_earlier)) return;
-  if (!standing || wrong(Rule::replacement_adds)) due_time_is_added(); // one that takes the place of another needs no room
+  if (is<DeltaPhase>(pending)) return;
+  if (standing && *standing <= due) return;
+  if (!standing) due_time_is_added(); // one that takes the place of another needs no room
   pending = DueTime{due};
 }
 
@@ -96,7 +84,7 @@ void Kernel::suspend(uint32_t thread) {
   Thread &t = threads[thread];
   if (t.ended) return;
   t.suspended = true;
-  if (!wrong(Rule::suspend_keeps_resume)) t.resume_pending = false;
+  t.resume_pending = false;
 }
 
 // The rule on resumption: only a suspended thread can be resumed, and it stays suspended until the coming delta phase.
@@ -104,7 +92,6 @@ void Kernel::resume(uint32_t thread) {
   Thread &t = threads[thread];
   if (t.ended) return;
   if (!t.suspended) return;
-  if (wrong(Rule::resume_at_once)) t.suspended = false;
   t.resume_pending = true;
 }
 
@@ -116,11 +103,8 @@ void Kernel::delta_phase() {
     trigger(e);
   }
   for (Thread &t : threads) {
-    if (is<DeltaPhase>(t.waiting) && !(wrong(Rule::suspended_misses_delta) && t.suspended)) t.waiting = Nothing{};
-    if (t.resume_pending && t.suspended) {
-      t.suspended = false;
-      t.resume_pending = false;
-    }
+    if (is<DeltaPhase>(t.waiting)) t.waiting = Nothing{};
+    if (t.resume_pending) t.suspended = t.resume_pending = false;
   }
 }
 
@@ -131,8 +115,7 @@ std::optional<uint32_t> Kernel::least_due_time() const {
     if (due && (!least || *due < *least)) least = due;
   };
   for (const Event &e : events) consider(due_time(e.pending));
-  for (const Thread &t : threads)
-    if (!(wrong(Rule::suspended_has_no_due_time) && t.suspended)) consider(due_time(t.waiting));
+  for (const Thread &t : threads) consider(due_time(t.waiting));
   return least;
 }
 
@@ -142,7 +125,6 @@ void Kernel::serve(uint32_t time) {
     if (due_time(events[e].pending) != time) continue;
     events[e].pending = Nothing{};
     trigger(e);
-    if (wrong(Rule::one_due_event_at_a_time)) return;
   }
   for (Thread &t : threads)
     if (due_time(t.waiting) == time) t.waiting = Nothing{};
@@ -150,27 +132,20 @@ void Kernel::serve(uint32_t time) {
 
 // The rule on triggers: nobody waits for this event any more, and being suspended is no reason to miss it.
 void Kernel::trigger(uint32_t event) {
-  bool freed = false;
-  for (Thread &t : threads) {
-    if (!waits_for(t, event)) continue;
-    if (wrong(Rule::suspended_misses_event) && t.suspended) continue;
-    if (wrong(Rule::trigger_frees_one) && freed) continue;
-    t.waiting = Nothing{};
-    freed = true;
-  }
-  events[event].remembered = !freed;
+  for (Thread &t : threads)
+    if (waits_for(t, event)) t.waiting = Nothing{};
 }
 
 // Number 17: the clock has no such time.
 uint32_t Kernel::due_time_after(uint32_t delay) const {
   const uint64_t due = uint64_t{now} + delay;
-  if (due > last_time || (wrong(Rule::last_time_is_17) && due == last_time)) throw Stop{17};
+  if (due > last_time) throw Stop{17};
   return static_cast<uint32_t>(due);
 }
 
 // Number 23: as many due times stand as there may be.
 void Kernel::due_time_is_added() const {
-  if (due_times_standing() >= most_due_times - (wrong(Rule::due_times_47) ? 1 : 0)) throw Stop{23};
+  if (due_times_standing() >= most_due_times) throw Stop{23};
 }
 
 std::size_t Kernel::due_times_standing() const {

@@ -26,7 +26,6 @@ using Waiting = std::variant<Nothing, AnEvent, DeltaPhase, DueTime>;
 
 struct Event {
   Pending pending;
-  bool remembered = false; // set by a planted wrong rule only
 };
 
 struct Thread {

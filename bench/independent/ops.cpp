@@ -1,7 +1,5 @@
 #include "ops.hpp"
 
-#include "planted.hpp"
-
 namespace independent {
 
 namespace {
@@ -69,9 +67,9 @@ const Op *op_of(uint32_t code) {
 // Only threads wait and only main starts. An update's one kernel instruction is the delayed notification.
 bool may_hold(BodyKind kind, uint32_t code) {
   switch (kind) {
-  case BodyKind::main: return code != 0x60 && (code != 0x61 || wrong(Rule::main_may_wait));
+  case BodyKind::main: return code != 0x60 && code != 0x61;
   case BodyKind::thread: return code != 0x67 && code != 0x68;
-  case BodyKind::update: return code < 0x60 || code > 0x68 || code == 0x63 || (code == 0x62 && wrong(Rule::update_may_notify_at_once));
+  case BodyKind::update: return code < 0x60 || code > 0x68 || code == 0x63;
   }
   return false;
 }

@@ -4,7 +4,6 @@
 #include "image.hpp"
 #include "kernel.hpp"
 #include "limits.hpp"
-#include "planted.hpp"
 
 namespace independent {
 
@@ -22,7 +21,7 @@ class Machine {
 public:
   Machine(const Design &design, uint32_t budget, const Chooser &chooser, const std::vector<uint32_t> &inputs)
       : design_(design), budget_(budget), chooser_(chooser), inputs_(inputs), kernel_(design.threads, design.events, design.updates),
-        cells_(design.cells, wrong(Rule::cells_keep_what_they_held) ? 7 : 0) {}
+        cells_(design.cells, 0) {}
 
   Outcome run();
 
@@ -32,12 +31,12 @@ private:
   void evaluation();
   void dispatch(uint32_t thread);
   void update_phase();
+  void run_update(uint32_t update);
   std::optional<uint32_t> time_phase(uint32_t limit);
 
   uint32_t step(uint32_t body, uint32_t place);
   void start(const Frame &f);
   uint32_t obey(const Frame &f, uint32_t body, uint32_t place);
-  void obey_arithmetic(const Frame &f);
   void obey_kernel(const Frame &f, uint32_t body);
   uint32_t next_input();
   uint32_t &cell_of_region(const Frame &f);
@@ -63,7 +62,6 @@ Outcome Machine::run() {
   } catch (const BadChoice &bad) {
     return {answer(bad.number, no_body, 0), cells_};
   } catch (const Stop &stop) {
-    if (wrong(Rule::the_stopping_one_counts)) ++completed_;
     return {answer(stop.number, body_, place_), cells_};
   }
 }
@@ -71,28 +69,22 @@ Outcome Machine::run() {
 // Main up to its end. How the phase ended is told only then; 11 says that there was none.
 uint32_t Machine::run_main() {
   uint32_t place = 0;
-  while (place < design_.bodies[0].length) {
-    place = step(0, place);
-    if (wrong(Rule::main_ends_with_the_phase) && phase_end_) break;
-  }
+  while (place < design_.bodies[0].length) place = step(0, place);
   return phase_end_.value_or(no_start);
 }
 
 // The rules on start, evaluation and time together. The phase begins with updates and a delta phase. Then rounds of evaluation, updates and
 // delta phase follow each other, and between them time moves until somebody can run.
 uint32_t Machine::phase(uint32_t limit) {
-  if (!wrong(Rule::no_first_update_phase)) update_phase();
-  if (!wrong(Rule::no_first_delta_phase)) kernel_.delta_phase();
+  update_phase();
+  kernel_.delta_phase();
   for (;;) {
     evaluation();
-    if (wrong(Rule::delta_before_updates)) kernel_.delta_phase();
     update_phase();
-    if (!wrong(Rule::delta_before_updates)) kernel_.delta_phase();
-    if (wrong(Rule::time_moves_too_early) && kernel_.runnable_threads() != 0 && kernel_.least_due_time()) time_phase(limit);
+    kernel_.delta_phase();
     while (kernel_.runnable_threads() == 0) {
       const std::optional<uint32_t> end = time_phase(limit);
       if (end) return *end;
-      if (wrong(Rule::quiet_when_nobody_is_freed) && kernel_.runnable_threads() == 0) return quiet;
     }
   }
 }
@@ -100,17 +92,11 @@ uint32_t Machine::phase(uint32_t limit) {
 // The rule on evaluation: a choice for each dispatch, until nobody can run. 20 and 21 are found here.
 void Machine::evaluation() {
   for (uint32_t runnable = kernel_.runnable_threads(); runnable != 0; runnable = kernel_.runnable_threads()) {
-    if (wrong(Rule::budget_before_choice) && completed_ == budget_) throw Stop{22};
-    std::optional<uint8_t> choice = chooser_(runnable);
+    const std::optional<uint8_t> choice = chooser_(runnable);
     if (!choice) throw BadChoice{20};
-    if (wrong(Rule::choice_modulo_threads)) choice = static_cast<uint8_t>(*choice % design_.threads);
-    if (*choice >= design_.threads || !kernel_.is_runnable(*choice)) {
-      if (wrong(Rule::refused_choice_counts)) ++accepted_;
-      throw BadChoice{wrong(Rule::bad_choice_is_20) ? 20u : 21u};
-    }
-    if (!wrong(Rule::choice_counts_afterwards)) ++accepted_;
+    if (*choice >= design_.threads || !kernel_.is_runnable(*choice)) throw BadChoice{21};
+    ++accepted_;
     dispatch(*choice);
-    if (wrong(Rule::choice_counts_afterwards)) ++accepted_;
   }
 }
 
@@ -119,38 +105,31 @@ void Machine::evaluation() {
 void Machine::dispatch(uint32_t thread) {
   Thread &t = kernel_.threads[thread];
   const uint32_t length = design_.bodies[thread + 1].length;
-  if (wrong(Rule::ending_is_an_instruction) && t.place == length) ++completed_;
   while (t.place < length) {
     t.place = step(thread + 1, t.place);
-    if (!kernel_.is_runnable(thread) && !(wrong(Rule::suspended_runs_on) && t.suspended)) {
-      if (wrong(Rule::last_wait_ends) && t.place == length) t.ended = true;
-      return;
-    }
+    if (!kernel_.is_runnable(thread)) return;
   }
   t.ended = true;
 }
 
 // The rule on updates: lowest number first, and a request is used up by one run.
 void Machine::update_phase() {
-  for (uint32_t i = 0; i < design_.updates; ++i) {
-    const uint32_t u = wrong(Rule::updates_fall) ? design_.updates - 1 - i : i;
-    if (!kernel_.requested[u]) continue;
-    const uint32_t body = 1 + design_.threads + u;
-    uint32_t place = 0;
-    while (place < design_.bodies[body].length) place = step(body, place);
-    kernel_.requested[u] = wrong(Rule::request_stays);
-  }
+  for (uint32_t u = 0; u < design_.updates; ++u)
+    if (kernel_.requested[u]) run_update(u);
+}
+
+void Machine::run_update(uint32_t update) {
+  const uint32_t body = 1 + design_.threads + update;
+  uint32_t place = 0;
+  while (place < design_.bodies[body].length) place = step(body, place);
+  kernel_.requested[update] = false;
 }
 
 // The rule on time: the number with which the phase ends, or nothing if it goes on. The limit itself still belongs to the phase.
 std::optional<uint32_t> Machine::time_phase(uint32_t limit) {
   const std::optional<uint32_t> due = kernel_.least_due_time();
   if (!due) return quiet;
-  if (*due > limit || (wrong(Rule::limit_is_not_served) && *due == limit)) {
-    if (wrong(Rule::time_passes_the_limit)) kernel_.now = *due;
-    if (wrong(Rule::limit_becomes_time)) kernel_.now = limit;
-    return limit_passed;
-  }
+  if (*due > limit) return limit_passed;
   kernel_.serve(*due);
   return std::nullopt;
 }
@@ -161,11 +140,8 @@ uint32_t Machine::step(uint32_t body, uint32_t place) {
   body_ = body;
   place_ = place;
   const Frame &f = design_.bodies[body].code[place];
-  const bool after_the_phase = body == 0 && phase_end_ && f.op >= (wrong(Rule::kernel_ops_after_the_phase) ? 0x67 : 0x62) && f.op <= 0x68;
-  if (wrong(Rule::n18_before_22) && after_the_phase) throw Stop{18};
-  if (wrong(Rule::assert_before_22) && f.op == 0x50) holds(cells_[f.a], 12);
+  const bool after_the_phase = body == 0 && phase_end_ && f.op >= 0x62 && f.op <= 0x68;
   if (completed_ == budget_) throw Stop{22};
-  if (wrong(Rule::own_before_18) && after_the_phase && f.op == 0x63) kernel_.notify_after(f.d, cells_[f.a]);
   if (after_the_phase) throw Stop{18};
   if (f.op == 0x67 || f.op == 0x68) {
     start(f);
@@ -179,9 +155,8 @@ uint32_t Machine::step(uint32_t body, uint32_t place) {
 // The rule on start: it is counted before anything of the phase happens.
 void Machine::start(const Frame &f) {
   const uint32_t limit = f.op == 0x67 ? f.imm : static_cast<uint32_t>(last_time); // no due time is above the last one
-  if (!wrong(Rule::start_counts_afterwards)) ++completed_;
+  ++completed_;
   phase_end_ = phase(limit);
-  if (wrong(Rule::start_counts_afterwards)) ++completed_;
 }
 
 uint32_t Machine::obey(const Frame &f, uint32_t body, uint32_t place) {
@@ -191,20 +166,14 @@ uint32_t Machine::obey(const Frame &f, uint32_t body, uint32_t place) {
   case 0x30: cells_[f.d] = cell_of_region(f); break;
   case 0x31: cell_of_region(f) = cells_[f.d]; break;
   case 0x40: return f.imm;
-  case 0x41: return (cells_[f.a] != 0) != wrong(Rule::goto_if_0) ? f.imm : place + 1;
+  case 0x41: return cells_[f.a] != 0 ? f.imm : place + 1;
   case 0x50: holds(cells_[f.a], 12); break;
-  case 0x51: holds(cells_[f.a], wrong(Rule::assume_is_12) ? 12 : 13); break;
+  case 0x51: holds(cells_[f.a], 13); break;
   default:
     if (f.op >= 0x60) obey_kernel(f, body);
-    else obey_arithmetic(f);
+    else cells_[f.d] = compute(f.op, cells_[f.a], cells_[f.b]);
   }
   return place + 1;
-}
-
-void Machine::obey_arithmetic(const Frame &f) {
-  const uint32_t a = cells_[f.a], b = cells_[f.b];
-  if (wrong(Rule::stop_15_stores) && f.op == 0x18) cells_[f.d] = a + b;
-  cells_[f.d] = compute(f.op, a, b);
 }
 
 void Machine::obey_kernel(const Frame &f, uint32_t body) {
@@ -221,17 +190,14 @@ void Machine::obey_kernel(const Frame &f, uint32_t body) {
 
 // Number 19: there is no further input.
 uint32_t Machine::next_input() {
-  if (taken_ == inputs_.size()) {
-    if (wrong(Rule::missing_input_counts)) ++taken_;
-    throw Stop{19};
-  }
+  if (taken_ == inputs_.size()) throw Stop{19};
   return inputs_[taken_++];
 }
 
 // The cell that a load or store means: a's value counts from cell imm, and must stay inside the b cells from there; number 16 otherwise.
 uint32_t &Machine::cell_of_region(const Frame &f) {
   const uint32_t place = cells_[f.a];
-  if (place > f.b || (place == f.b && !wrong(Rule::region_one_longer))) throw Stop{16};
+  if (place >= f.b) throw Stop{16};
   return cells_.at(f.imm + place);
 }
 
@@ -254,8 +220,6 @@ Outcome run(const Design &design, uint32_t budget, const Chooser &chooser, const
 
 // The paragraph on refusals, for the run: first the job's lists, then the room for cells, then the table.
 Outcome run(const Job &job, std::size_t room_in_cells) {
-  if (wrong(Rule::cells_before_job) && room_in_cells < most_cells) return refusal(8, 0);
-  if (wrong(Rule::inputs_before_choices) && job.inputs.size() > most_inputs) return refusal(9, 2);
   if (job.choices.size() > most_choices) return refusal(9, 1);
   if (job.inputs.size() > most_inputs) return refusal(9, 2);
   if (room_in_cells < most_cells) return refusal(8, 0);
