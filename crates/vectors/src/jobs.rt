@@ -8,9 +8,6 @@ ghost use lib.ListN.{length};
 // More bytes than the file stdin has: what lies past them would be left out, and be missed in what is printed.
 const INPUT: usize = 0x4_0000;
 
-// Room for every answer: a line of 44 bytes, and 9 bytes for each of 256 cells.
-const ANSWER: usize = 44 + 9 * 256;
-
 // The index after the next 0a, or after the text's last byte.
 fn past_line(text: &[u8], at: usize) -> usize
     requires { ⌜ at < length (now text) ⌝ }
@@ -55,7 +52,7 @@ fn print_first(out: &[u8], bytes: usize) {
 
 // The title is printed as it stands, and after it the whole answer of the program.
 fn answered(title: &[u8], job: &[u8]) {
-    let mut out = [0u8; ANSWER];
+    let mut out = [0u8; job::LONGEST_ANSWER];
     let bytes = job::answer(job, &mut out);
     io::write_all(1, title);
     print_first(&out, bytes);
