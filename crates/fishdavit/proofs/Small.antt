@@ -13,30 +13,13 @@ use Rattle.image.specs.declared.Verdict.{Verdict}
 use Rattle.image.specs.Limits.{mostLines}
 use Rattle.image.specs.Judge.{Said, say, said, judged}
 use Rattle.image.proofs.Accepted.{accepted-has, few-lines}
-use Rattle.lines.specs.Text.{frames, more, settled, Outcome, outcome, readAs, reading, text, writing}
+use Rattle.lines.specs.Text.{Outcome, outcome, reading, text, writing}
+use Rattle.lines.proofs.Few.{read-few}
 use Rattle.fishdavit.specs.Plain.{Small}
-
-settled-line : (m : Bool) (s : Said) → settled m s .line ≡ s .line
-unfolding settled
-settled-line false s = refl
-settled-line true s = by (eqb (s .number) 0) (eqb (s .number) 6)
-  where
-    by : (z x : Bool) → (if z then say 7 (s .line) else (if x then say 1 (s .line) else s)) .line ≡ s .line
-    by true x = refl
-    by false true = refl
-    by false false = refl
 
 module _ (v : Verdict) where
   pub judge-small : (fs : List ℕ) → said v ≡ judged fs → Small (said v)
   judge-small fs e = omega (arith, ap (λ (s : Said). s .line) e, few-lines fs)
-
-  by-room : (bs table : List ℕ) (b : Bool) → (if b then outcome (say 8 0) table else readAs (settled (more bs) (judged (frames bs))) (frames bs) table) .says .line ≤ mostLines
-  by-room bs table true = omega arith
-  by-room bs table false = omega (arith, settled-line (more bs) (judged (frames bs)), few-lines (frames bs))
-
-  read-few : (bs table : List ℕ) → reading bs table .says .line ≤ mostLines
-  unfolding reading
-  read-few bs table = by-room bs table (ltb (length table) mostLines)
 
   pub read-small : (bs table left : List ℕ) → outcome (said v) left ≡ reading bs table → Small (said v)
   read-small bs table left e = omega (arith, ap (λ (o : Outcome). o .says .line) e, read-few bs table)

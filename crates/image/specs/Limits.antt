@@ -21,3 +21,10 @@ mostInstructions = 1024
 -- "An image has at most 1,058 lines."
 abbrev pub mostLines : ℕ
 mostLines = 1058
+
+-- "9 job: over 4,096 choices, or over 1,024 inputs"
+abbrev pub mostChoices : ℕ
+mostChoices = 4096
+
+abbrev pub mostInputs : ℕ
+mostInputs = 1024

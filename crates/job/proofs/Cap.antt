@@ -13,11 +13,10 @@ use Rattle.laws.specs.Lists.{over}
 use Rattle.hex.specs.Hex.{digits, value, numberAt}
 use Rattle.hex.specs.declared.Number.{Number}
 use Rattle.hex.specs.declared.Number.the-variants.{Is, Malformed}
-use Rattle.image.specs.Limits.{mostLines}
+use Rattle.image.specs.Limits.{mostLines, mostChoices, mostInputs}
 use Rattle.image.specs.Judge.{Said, say, judged}
 use Rattle.lines.specs.Text.{lineAt, before as frameBefore, framesFrom, frames, more, settled, Outcome, outcome, readAs, reading}
 use Rattle.lines.proofs.Cap.{looking, same-answer, same-frames}
-use Rattle.kernel.specs.Run.{mostChoices, mostInputs}
 use Rattle.job.specs.JobLines.{lineLength, ended, afterLine, budgetOf, Numbers, these, malformed, numbersFrom, numbersOf}
 use Rattle.job.specs.Whole.{byImage, fromImage, byInputs, fromInputs, byChoices, fromChoices, byBudget, printed, longestJob}
 

@@ -11,11 +11,11 @@ use Rattle.laws.specs.Choice.{if_then_else_, between}
 use Rattle.hex.specs.declared.Number.{Number}
 use Rattle.hex.specs.declared.Number.the-variants.{Is, Malformed}
 use Rattle.frame.specs.Fields.{fields}
-use Rattle.image.specs.Limits.{mostCells, mostLines}
+use Rattle.image.specs.Limits.{mostCells, mostLines, mostChoices, mostInputs}
 use Rattle.image.specs.Layout.{counts}
 use Rattle.image.specs.Judge.{judged}
 use Rattle.lines.specs.Text.{Outcome, reading}
-use Rattle.kernel.specs.Run.{Answer, mostChoices, mostInputs, asked}
+use Rattle.kernel.specs.Run.{Answer, asked}
 use Rattle.run.specs.Code.{jobOf}
 use Rattle.run.proofs.Ends.{few-counts}
 use Rattle.job.specs.JobLines.{afterLine, budgetOf, Numbers, these, malformed, numbersOf}

@@ -15,13 +15,14 @@ use Rattle.hex.specs.declared.Number.{Number}
 use Rattle.hex.specs.declared.Number.the-variants.{Is, Malformed}
 use Rattle.frame.specs.declared.Frame.{Frame}
 use Rattle.frame.specs.Fields.{fields}
-use Rattle.image.specs.Limits.{mostCells, mostLines}
+use Rattle.image.specs.Limits.{mostCells, mostLines, mostChoices, mostInputs}
 use Rattle.image.specs.Layout.{counts}
-use Rattle.image.specs.Judge.{Said, say, judged}
-use Rattle.image.proofs.Accepted.{accepted-has, few-lines}
+use Rattle.image.specs.Judge.{Said, judged}
+use Rattle.image.proofs.Accepted.{accepted-has}
 use Rattle.lines.specs.Text.{frames, more, settled, Outcome as Read, outcome, readAs, reading}
 use Rattle.lines.proofs.RoundTrip.{settled-good}
-use Rattle.kernel.specs.Run.{Answer, Outcome as Ran, mostChoices, mostInputs, asked}
+use Rattle.lines.proofs.Few.{read-few}
+use Rattle.kernel.specs.Run.{Answer, Outcome as Ran, asked}
 use Rattle.run.specs.Code.{jobOf}
 use Rattle.run.proofs.Ends.{few-counts}
 use Rattle.job.specs.declared.Listed.{Listed}
@@ -50,16 +51,6 @@ module _ (t l : List ℕ) (f : Frame) (good : judged t .number ≡ 0) (e : f ≡
   cells-room m g = omega (arith, cells-counted, few-counts t good f e .3)
 
 -- what reading leaves
-settled-line : (m : Bool) (s : Said) → settled m s .line ≡ s .line
-unfolding settled
-settled-line false s = refl
-settled-line true s = by (eqb (s .number) 0) (eqb (s .number) 6)
-  where
-    by : (z x : Bool) → (if z then say 7 (s .line) else (if x then say 1 (s .line) else s)) .line ≡ s .line
-    by true x = refl
-    by false true = refl
-    by false false = refl
-
 module _ (bs table : List ℕ) (h : mostLines ≤ length table) where
   says : Said
   says = settled (more bs) (judged (frames bs))
@@ -67,10 +58,6 @@ module _ (bs table : List ℕ) (h : mostLines ≤ length table) where
   read-as : reading bs table ≡ readAs says (frames bs) table
   unfolding reading says
   read-as = rw (le-ltb (length table) mostLines h)
-
-  read-few : reading bs table .says .line ≤ mostLines
-  unfolding says
-  read-few = rw read-as (omega (arith, settled-line (more bs) (judged (frames bs)), few-lines (frames bs)))
 
   by-good : (r : Read) → r ≡ readAs says (frames bs) table → r .says .number ≡ 0 → judged (take (r .says .line) (r .buffer)) .number ≡ 0
   unfolding says
@@ -85,7 +72,7 @@ module _ (bs table : List ℕ) (h : mostLines ≤ length table) where
 -- an image, from its text
 module _ (bs table : List ℕ) (h : mostLines ≤ length table) (s : Said) (t : List ℕ) (e : outcome s t ≡ reading bs table) where
   pub line-few : (i : ℕ) → i ≡ s .line → i ≤ mostLines
-  line-few i q = omega (arith, ap (λ (o : Read). o .says .line) e, read-few bs table h)
+  line-few i q = omega (arith, ap (λ (o : Read). o .says .line) e, read-few bs table)
 
   pub lines-counted : (i : ℕ) → i ≡ s .line → mostLines ≤ length t → i ≡ length (take i t)
   lines-counted i q l = sym (length-take-le i t (omega (arith, line-few i q)))

@@ -8,11 +8,11 @@ use Rattle.laws.specs.Choice.{if_then_else_}
 use Rattle.laws.specs.Lists.{over}
 use Rattle.hex.specs.declared.Number.{Number}
 use Rattle.hex.specs.declared.Number.the-variants.{Is, Malformed}
-use Rattle.image.specs.Limits.{mostCells, mostLines}
+use Rattle.image.specs.Limits.{mostCells, mostLines, mostChoices, mostInputs}
 use Rattle.lines.specs.Text.{Outcome as Read, reading}
 use Rattle.kernel.specs.Design.{cells}
 use Rattle.kernel.specs.Machine.{Job}
-use Rattle.kernel.specs.Run.{Outcome as Ran, mostChoices, mostInputs, asked}
+use Rattle.kernel.specs.Run.{Outcome as Ran, asked}
 use Rattle.run.specs.Code.{jobOf}
 use Rattle.job.specs.JobLines.{afterLine, budgetOf, Numbers, these, malformed, numbersOf}
 use Rattle.job.specs.Printing.{shown, refusal, mostPrinted}

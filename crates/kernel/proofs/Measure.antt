@@ -18,7 +18,7 @@ use Rattle.kernel.proofs.Search.{unfound, sum-le, sum-lt, sum-one, less
 use Rattle.kernel.proofs.Fields.{field-same, keeps-suspend, keeps-back}
 use Rattle.kernel.proofs.Served.{due-freeOn, dueAt, served-pends, served-due, served-requested}
 
-time-one : (d : Due) → isTime d ≤ 1
+pub time-one : (d : Due) → isTime d ≤ 1
 time-one never = omega arith
 time-one delta = omega arith
 time-one (at t) = omega arith

@@ -5,7 +5,7 @@ use mathlib.Core.Bool.{true}
 use mathlib.Core.Logic.{_↔_}
 use mathlib.Core.List.{List, [], _∷_}
 use lib.ListN.{length}
-use Rattle.image.specs.Limits.{mostCells}
+use Rattle.image.specs.Limits.{mostCells, mostChoices, mostInputs}
 use Rattle.image.specs.Judge.{judged}
 use Rattle.kernel.specs.Search.{Found, none, found, nth}
 use Rattle.kernel.specs.Design.{Table, main, thread, update, threads, updates}
@@ -13,7 +13,7 @@ use Rattle.kernel.specs.Kernel.{Due, delta, at, Wait, on, till, Happenin
 use Rattle.kernel.specs.Pending.{runnable, isRequested}
 use Rattle.kernel.specs.Machine.{Job, Control, running, updatePhase, deltaPhase, turn, evaluation, timePhase, over, State, init}
 use Rattle.kernel.specs.Step.{stepFrom, step, steps}
-use Rattle.kernel.specs.Run.{Answer, outcomeOf, bound, mostChoices, mostInputs, asked}
+use Rattle.kernel.specs.Run.{Answer, outcomeOf, bound, asked}
 use Rattle.kernel.specs.Words.{Among, Moment, hasEnded, suspended as isSuspended, resuming as isResuming, clock, InStage, Pends, endsWait, Waits, Held, Sleeps, Unheld, Runnable, Requested, Work, event, wait, resume, Within, DueAt, serves, Stands, Nothing, Earliest, Above, Lull, Lowest, Underway, completed, accepted, taken, unended}
 
 -- What may happen --------------------------------------------------------------------------------------------------

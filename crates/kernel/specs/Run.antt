@@ -5,7 +5,7 @@ use lib.Dec.{eqb, ltb}
 use lib.ListN.{length}
 use Rattle.laws.specs.Choice.{if_then_else_}
 use Rattle.laws.specs.Lists.{over as storedOver}
-use Rattle.image.specs.Limits.{mostCells}
+use Rattle.image.specs.Limits.{mostCells, mostChoices, mostInputs}
 use Rattle.image.specs.Judge.{judged}
 use Rattle.kernel.specs.Search.{sum}
 use Rattle.kernel.specs.Design.{Table, threads}
@@ -76,13 +76,6 @@ refused n i lent = record {
   answer = record { number = n; body = 0xff; place = i; time = 0; instructions = 0; choices = 0; inputs = 0; threads = 0 };
   cells = lent;
 }
-
--- "9 job: over 4,096 choices, or over 1,024 inputs"
-abbrev pub mostChoices : ℕ
-mostChoices = 4096
-
-abbrev pub mostInputs : ℕ
-mostInputs = 1024
 
 -- "Run: 9 (choices at line 1, then inputs at line 2), 8 (cell buffer under 256), then 2 to 7 over the whole table."
 unfoldable pub asked : Job → List ℕ → Outcome

@@ -4,3 +4,4 @@ pub mod RoundTrip
 pub mod Cap
 pub mod Whole
 pub mod Unique
+pub mod Few

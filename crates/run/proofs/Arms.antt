@@ -13,9 +13,9 @@ use Rattle.frame.specs.declared.Frame.{Frame}
 use Rattle.frame.specs.Fields.{fields}
 use Rattle.frame.specs.Ops.{meaningOf}
 use Rattle.kernel.specs.Search.{Found, none, found, nth, any, first, sum}
-use Rattle.kernel.specs.History.{Due, never, delta, at}
-use Rattle.kernel.specs.Pending.{dueOf, isTime}
+use Rattle.kernel.specs.Pending.{dueOf}
 use Rattle.kernel.proofs.Search.{first-found}
+use Rattle.kernel.proofs.Measure.{time-one}
 use Rattle.phases.proofs.Loops.{any-found}
 use Rattle.phases.specs.declared.Found.{Found as FoundCode}
 use Rattle.phases.specs.declared.Found.the-variants.{At as FoundAt, Nothing as FoundNothing}
@@ -248,11 +248,6 @@ sum-ones : (f : ℕ → ℕ) → ((i : ℕ) → f i ≤ 1) → (n : ℕ) → sum
 unfolding sum
 sum-ones f h zero = omega arith
 sum-ones f h (suc n) = omega (arith, h n, sum-ones f h n)
-
-time-one : (d : Due) → isTime d ≤ 1
-time-one never = omega arith
-time-one delta = omega arith
-time-one (at t) = omega arith
 
 pub room-many : (e t : ℕ) → 48 ≤ t → false ≡ ltb (e + t) 48
 room-many e t h = sym (le-ltb (e + t) 48 (omega arith))
