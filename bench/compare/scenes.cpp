@@ -109,8 +109,16 @@ Made after_scene(Random &r) {
 
 Made inputs_scene(Random &r) { return stop_with(r, 19, anywhere, {{input(8)}}); }
 
-// The choices end before the threads do, with budget left or just used up.
-Made choices_scene(Random &r) {
+// A scene after some of its dispatches, with budget left or just used up.
+struct Cut {
+  Case c;
+  std::size_t kept;
+  std::size_t completed;
+  Moment after;
+  uint32_t threads;
+};
+
+Cut cut_scene(Random &r) {
   for (;;) {
     const Scene scene(r);
     if (scene.order.empty()) continue;
@@ -118,26 +126,24 @@ Made choices_scene(Random &r) {
     const std::size_t n = scene.moments(kept).size();
     const Moment after = scene.after(kept);
     Case c = scene.to_case(r, after.inputs);
-    c.job.choices.resize(kept);
     c.job.budget = static_cast<uint32_t>(n) + r.below(2) * r.below(100);
-    return {c, {{}, {}, {}, ended(20, after, n)}};
+    return {c, kept, n, after, scene.plan.threads};
   }
+}
+
+// The choices end before the threads do.
+Made choices_scene(Random &r) {
+  Cut cut = cut_scene(r);
+  cut.c.job.choices.resize(cut.kept);
+  return {cut.c, {{}, {}, {}, ended(20, cut.after, cut.completed)}};
 }
 
 // A choice names a thread that has ended, or none at all.
 Made bad_choice_scene(Random &r) {
-  for (;;) {
-    const Scene scene(r);
-    if (scene.order.empty()) continue;
-    const std::size_t kept = r.below(scene.order.size());
-    const std::size_t n = scene.moments(kept).size();
-    const Moment after = scene.after(kept);
-    Case c = scene.to_case(r, after.inputs);
-    c.job.choices[kept] =
-        static_cast<uint8_t>(kept > 0 && r.chance(500) ? c.job.choices[r.below(kept)] : r.between(scene.plan.threads, 255));
-    c.job.budget = static_cast<uint32_t>(n) + r.below(2) * r.below(100);
-    return {c, {{}, {}, {}, ended(21, after, n)}};
-  }
+  Cut cut = cut_scene(r);
+  std::vector<uint8_t> &choices = cut.c.job.choices;
+  choices[cut.kept] = static_cast<uint8_t>(cut.kept > 0 && r.chance(500) ? choices[r.below(cut.kept)] : r.between(cut.threads, 255));
+  return {cut.c, {{}, {}, {}, ended(21, cut.after, cut.completed)}};
 }
 
 // Any instruction of the run may be the one that the budget doesn't cover.
