@@ -30,7 +30,7 @@ fn put(d: usize, r: Outcome) -> Eff
     }
 }
 
-// Cell d takes a signed result where the range has it. The result is tested here and not in `word`, because an effect, unlike an
+// Cell d takes a signed result where the range has it. The result is tested here and not in `signed`, because an effect, unlike an
 // outcome, is too large for the compiler to carry it through the test as one number.
 fn put_signed(d: usize, s: i64) -> Eff
     ensures { λ e. ⌜ e ≡ putOf d (narrow 32 s) ⌝ }
@@ -41,26 +41,26 @@ fn put_signed(d: usize, s: i64) -> Eff
     if 2147483647 < s {
         return Eff::Stop(15);
     }
-    Eff::Put(d, word::as_cell(s as i32))
+    Eff::Put(d, signed::as_cell(s as i32))
 }
 
 // An i64 holds a sum, a difference and a product of two cells.
 fn sum(d: usize, x: u32, y: u32) -> Eff
     ensures { λ e. ⌜ e ≡ putOf d (addS 32 x y) ⌝ }
 {
-    put_signed(d, word::wide(x) + word::wide(y))
+    put_signed(d, signed::wide(x) + signed::wide(y))
 }
 
 fn difference(d: usize, x: u32, y: u32) -> Eff
     ensures { λ e. ⌜ e ≡ putOf d (subS 32 x y) ⌝ }
 {
-    put_signed(d, word::wide(x) - word::wide(y))
+    put_signed(d, signed::wide(x) - signed::wide(y))
 }
 
 fn product(d: usize, x: u32, y: u32) -> Eff
     ensures { λ e. ⌜ e ≡ putOf d (mulS 32 x y) ⌝ }
 {
-    put_signed(d, word::wide(x) * word::wide(y))
+    put_signed(d, signed::wide(x) * signed::wide(y))
 }
 
 // A cell; past the cells it is 0.
@@ -134,26 +134,26 @@ fn effect_of(i: Frame, cells: &[u32]) -> Eff
     match op {
         0x01 => Eff::Put(d, i.imm),
         0x02 => Eff::Put(d, x),
-        0x10 => Eff::Put(d, word::add_u(x, y)),
-        0x11 => Eff::Put(d, word::sub_u(x, y)),
-        0x12 => Eff::Put(d, word::mul_u(x, y)),
-        0x13 => put(d, word::quot_u(x, y)),
-        0x14 => put(d, word::rem_u(x, y)),
+        0x10 => Eff::Put(d, unsigned::add_u(x, y)),
+        0x11 => Eff::Put(d, unsigned::sub_u(x, y)),
+        0x12 => Eff::Put(d, unsigned::mul_u(x, y)),
+        0x13 => put(d, unsigned::quot_u(x, y)),
+        0x14 => put(d, unsigned::rem_u(x, y)),
         0x18 => sum(d, x, y),
         0x19 => difference(d, x, y),
         0x1a => product(d, x, y),
-        0x1b => put(d, word::quot_s(x, y)),
-        0x1c => put(d, word::rem_s(x, y)),
-        0x20 => Eff::Put(d, word::and_b(x, y)),
-        0x21 => Eff::Put(d, word::or_b(x, y)),
-        0x22 => Eff::Put(d, word::not_b(x)),
-        0x28 => Eff::Put(d, word::equal(x, y)),
-        0x29 => Eff::Put(d, word::differ(x, y)),
-        0x2a => Eff::Put(d, word::lt_u(x, y)),
-        0x2b => Eff::Put(d, word::le_u(x, y)),
-        0x2c => Eff::Put(d, word::lt_s(x, y)),
-        0x2d => Eff::Put(d, word::le_s(x, y)),
-        0x2e => Eff::Put(d, word::is_zero(x)),
+        0x1b => put(d, signed::quot_s(x, y)),
+        0x1c => put(d, signed::rem_s(x, y)),
+        0x20 => Eff::Put(d, bits::and_b(x, y)),
+        0x21 => Eff::Put(d, bits::or_b(x, y)),
+        0x22 => Eff::Put(d, bits::not_b(x)),
+        0x28 => Eff::Put(d, bits::equal(x, y)),
+        0x29 => Eff::Put(d, bits::differ(x, y)),
+        0x2a => Eff::Put(d, unsigned::lt_u(x, y)),
+        0x2b => Eff::Put(d, unsigned::le_u(x, y)),
+        0x2c => Eff::Put(d, signed::lt_s(x, y)),
+        0x2d => Eff::Put(d, signed::le_s(x, y)),
+        0x2e => Eff::Put(d, bits::is_zero(x)),
         0x30 => load_of(i, x, cells),
         0x31 => store_of(i, x, cells),
         0x40 => Eff::Go(i.imm as usize),

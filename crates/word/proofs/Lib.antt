@@ -1,6 +1,4 @@
--- Laws that the functions' proofs share.
+-- What the machine's numbers are in the words of the definitions: laws that the operations' proofs share.
 pub mod Machine
 pub mod Signs
-pub mod Bits
 pub mod Operands
-pub mod Quotients
