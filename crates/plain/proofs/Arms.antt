@@ -11,21 +11,15 @@ use lib.ListN.{length, getD, set, List·getD-eq-default}
 use lib.Seq.{set-out}
 use Rattle.laws.specs.Choice.{if_then_else_}
 use Rattle.laws.specs.Span.{Arm, Each, AllTold, Rest, Outside, in-span, the-rest}
-use lib.IntN.{ℤ}
-use mir.Syntax.{w32, w64}
-use mir.Val.{toZ, ofZ, Fits}
-use Rattle.word.specs.Word.{Result, value, stop, signed, narrow}
-use Rattle.word.specs.Said.{said}
-use Rattle.word.proofs.Operands.{Roomy, exact}
-use Rattle.word.specs.declared.Outcome.{Outcome}
-use Rattle.word.specs.declared.Outcome.the-variants.{Value, ZeroDivisor, OutOfRange}
+use Rattle.word.specs.Word.{Result, value, stop}
 use Rattle.frame.specs.declared.Frame.{Frame}
 use Rattle.frame.specs.Ops.{Meaning, takesImm, takesInput, one, two, may, load, store, goto, gotoIf, holds, waitEvent, waitTime, notify, notifyAfter, request, suspend, resume, startLimit, start, unknown, meaningOf}
 use Rattle.kernel.specs.Kernel.{nothing}
 use Rattle.kernel.specs.Effect.{sets, stops, goes, does, stopIf, setsTo, goesIf, effect}
-use Rattle.plain.specs.declared.Eff.{Eff}
-use Rattle.plain.specs.declared.Eff.the-variants.{Put, Next, Go, Stop, Leave}
-use Rattle.plain.specs.Plain.{isPlain, seen, asEff, plainEffect, stands, Comes, putOf, loadOf, storeOf, jumpOf, holdOf}
+use Rattle.effect.specs.Parts.{putOf, jumpOf}
+use Rattle.effect.specs.declared.Eff.{Eff}
+use Rattle.effect.specs.declared.Eff.the-variants.{Put, Next, Go, Stop, Leave}
+use Rattle.plain.specs.Plain.{isPlain, seen, asEff, plainEffect, stands, Comes, loadOf, storeOf, holdOf}
 
 -- Single functions
 pub cell-past : (l : List ℕ) (a : ℕ) → length l ≤ a → 0 ≡ getD l a 0
@@ -33,23 +27,6 @@ cell-past l a h = sym (List·getD-eq-default l 0 h)
 
 pub set-past : (l : List ℕ) (i v : ℕ) → length l ≤ i → l ≡ set l i v
 set-past l i v h = sym (set-out l i v h)
-
-module _ (d : ℕ) (r : Outcome) where
-  pub put-value : (x : ℕ) → r ≡ Value x → Put d x ≡ putOf d (said r)
-  unfolding said
-  put-value x e = rw e
-
-  pub put-zero : r ≡ ZeroDivisor → Stop 14 ≡ putOf d (said r)
-  unfolding said
-  put-zero e = rw e
-
-  pub put-range : r ≡ OutOfRange → Stop 15 ≡ putOf d (said r)
-  unfolding said
-  put-range e = rw e
-
--- an i64 operation on two cells' numbers gives the exact result, so that is what is narrowed
-pub put-exact : (f : ℤ → ℤ → ℤ) → Roomy f → (d x y : ℕ) (a b : ℤ) → Fits w32 x → Fits w32 y → a ≡ signed 32 x → b ≡ signed 32 y → (e : Eff) → e ≡ putOf d (narrow 32 (toZ w64 (ofZ w64 (f (toZ w64 (ofZ w64 a)) (toZ w64 (ofZ w64 b)))))) → e ≡ putOf d (narrow 32 (f (signed 32 x) (signed 32 y)))
-put-exact f roomy d x y a b fx fy ea eb e q = q ∙ ap (λ (z : ℤ). putOf d (narrow 32 z)) (exact f roomy x y a b fx fy ea eb)
 
 module _ (i : Frame) (cs : List ℕ) (v x : ℕ) (e : x ≡ v) where
   pub load-out : i .b ≤ x → Stop 16 ≡ loadOf i v cs
@@ -65,12 +42,6 @@ module _ (i : Frame) (cs : List ℕ) (v x : ℕ) (e : x ≡ v) where
   store-in y h q = rw (← e, lt-leb (i .b) x h, q)
 
 module _ (x : ℕ) where
-  pub jump-not : (to : ℕ) → x ≡ 0 → Next ≡ jumpOf x to
-  jump-not to e = rw (eq-eqb x 0 e)
-
-  pub jump-taken : (to : ℕ) → (x ≡ 0 → ⊥) → Go to ≡ jumpOf x to
-  jump-taken to e = rw (ne-eqb x 0 e)
-
   pub hold-fails : (n : ℕ) → x ≡ 0 → Stop n ≡ holdOf x n
   hold-fails n e = rw (eq-eqb x 0 e)
 

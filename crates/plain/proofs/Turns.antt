@@ -11,8 +11,8 @@ use lib.ListN.{length, getD, set, take, drop, length-drop}
 use lib.Seq.{length-take-le, getD-take, getD-drop}
 use Rattle.frame.specs.declared.Frame.{Frame}
 use Rattle.frame.specs.Fields.{fields}
-use Rattle.plain.specs.declared.Eff.{Eff}
-use Rattle.plain.specs.declared.Eff.the-variants.{Put, Next, Go, Stop, Leave}
+use Rattle.effect.specs.declared.Eff.{Eff}
+use Rattle.effect.specs.declared.Eff.the-variants.{Put, Next, Go, Stop, Leave}
 use Rattle.plain.specs.declared.End.the-variants.{Ended, Left, Stopped}
 use Rattle.plain.specs.declared.Ran.{Ran}
 use Rattle.plain.specs.Plain.{Out, out, when, after, plainEffect, Comes, plain, able, runPlain}

@@ -6,7 +6,6 @@ use mathlib.Core.List.{List, []}
 use lib.Dec.{eqb, ltb, leb}
 use lib.ListN.{length, getD, set}
 use Rattle.laws.specs.Choice.{if_then_else_}
-use Rattle.word.specs.Word.{Result, value, stop}
 use Rattle.frame.specs.declared.Frame.{Frame}
 use Rattle.frame.specs.Fields.{fields}
 use Rattle.frame.specs.Ops.{Meaning, takesImm, takesInput, one, two, may, load, store, goto, gotoIf, holds, waitEvent, waitTime, notify, notifyAfter, request, suspend, resume, startLimit, start, unknown, meaningOf}
@@ -14,8 +13,8 @@ use Rattle.kernel.specs.Search.{none}
 use Rattle.kernel.specs.Design.{main}
 use Rattle.kernel.specs.Kernel.{Deed, nothing, reads, notifies, asks, waits, requests, suspends, resumes, kernel}
 use Rattle.kernel.specs.Effect.{View, Effect, stops, sets, takes, goes, does, begins, effect}
-use Rattle.plain.specs.declared.Eff.{Eff}
-use Rattle.plain.specs.declared.Eff.the-variants.{Put, Next, Go, Stop, Leave}
+use Rattle.effect.specs.declared.Eff.{Eff}
+use Rattle.effect.specs.declared.Eff.the-variants.{Put, Next, Go, Stop, Leave}
 use Rattle.plain.specs.declared.End.{End}
 use Rattle.plain.specs.declared.End.the-variants.{Ended, Left, Stopped}
 use Rattle.plain.specs.declared.Ran.{Ran}
@@ -83,19 +82,12 @@ stands place Leave = Leave
 abbrev pub Comes : Eff → Frame → List ℕ → Type 0
 Comes e i cells = (place : ℕ) → stands place e ≡ plainEffect i place cells
 
--- the parts of the decision: cell d takes a result or the run stops; place v of a region read and written; goto; assert and assume
-abbrev pub putOf : ℕ → Result → Eff
-putOf d (value x) = Put d x
-putOf d (stop n) = Stop n
-
+-- parts of the decision: place v of a region read and written; assert and assume
 abbrev pub loadOf : Frame → (v : ℕ) → List ℕ → Eff
 loadOf i v cs = if leb (i .b) v then Stop 16 else Put (i .d) (getD cs (i .imm + v) 0)
 
 abbrev pub storeOf : Frame → (v : ℕ) → List ℕ → Eff
 storeOf i v cs = if leb (i .b) v then Stop 16 else Put (i .imm + v) (getD cs (i .d) 0)
-
-abbrev pub jumpOf : (x to : ℕ) → Eff
-jumpOf x to = if eqb x 0 then Next else Go to
 
 abbrev pub holdOf : (x n : ℕ) → Eff
 holdOf x n = if eqb x 0 then Stop n else Next

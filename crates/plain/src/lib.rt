@@ -1,67 +1,11 @@
 // The hot path: the plain instructions of one body, on a lent table and lent cells.
+use effect::Eff;
 use frame::Frame;
 use image::Image;
-use word::Outcome;
 ghost use mathlib.Core.Path.{_≡_};
 ghost use Prim.Native.Nat.{_+_, _-_, _≤_, _<_};
 ghost use lib.ListN.{length, getD, set};
-ghost use Rattle.word.specs.Word.{narrow, addS, subS, mulS};
-ghost use Rattle.word.specs.Said.{said};
-ghost use Rattle.plain.specs.Plain.{Comes, putOf, loadOf, storeOf, jumpOf, holdOf, plain, runPlain};
-
-// What a plain instruction comes to, at whatever place it stands: a cell takes a value and the body goes on at the next place; the
-// body just goes on there; it goes on elsewhere; the run stops with a number; or the instruction is not plain.
-pub enum Eff {
-    Put(usize, u32),
-    Next,
-    Go(usize),
-    Stop(u8),
-    Leave,
-}
-
-// Cell d takes the value of an operation, or the run stops.
-fn put(d: usize, r: Outcome) -> Eff
-    ensures { λ e. ⌜ e ≡ putOf d (said r) ⌝ }
-{
-    match r {
-        Outcome::Value(x) => Eff::Put(d, x),
-        Outcome::ZeroDivisor => Eff::Stop(14),
-        Outcome::OutOfRange => Eff::Stop(15),
-    }
-}
-
-// Cell d takes a signed result where the range has it. The result is tested here and not in `signed`, because an effect, unlike an
-// outcome, is too large for the compiler to carry it through the test as one number.
-fn put_signed(d: usize, s: i64) -> Eff
-    ensures { λ e. ⌜ e ≡ putOf d (narrow 32 s) ⌝ }
-{
-    if s < -2147483648 {
-        return Eff::Stop(15);
-    }
-    if 2147483647 < s {
-        return Eff::Stop(15);
-    }
-    Eff::Put(d, signed::as_cell(s as i32))
-}
-
-// An i64 holds a sum, a difference and a product of two cells.
-fn sum(d: usize, x: u32, y: u32) -> Eff
-    ensures { λ e. ⌜ e ≡ putOf d (addS 32 x y) ⌝ }
-{
-    put_signed(d, signed::wide(x) + signed::wide(y))
-}
-
-fn difference(d: usize, x: u32, y: u32) -> Eff
-    ensures { λ e. ⌜ e ≡ putOf d (subS 32 x y) ⌝ }
-{
-    put_signed(d, signed::wide(x) - signed::wide(y))
-}
-
-fn product(d: usize, x: u32, y: u32) -> Eff
-    ensures { λ e. ⌜ e ≡ putOf d (mulS 32 x y) ⌝ }
-{
-    put_signed(d, signed::wide(x) * signed::wide(y))
-}
+ghost use Rattle.plain.specs.Plain.{Comes, loadOf, storeOf, holdOf, plain, runPlain};
 
 // A cell; past the cells it is 0.
 fn cell(cells: &[u32], n: usize) -> u32
@@ -101,16 +45,6 @@ fn store_of(i: Frame, v: u32, cells: &[u32]) -> Eff
     Eff::Put(i.imm as usize + x, cell(cells, i.d as usize))
 }
 
-// Goto where the cell is not 0.
-fn jump(x: u32, to: usize) -> Eff
-    ensures { λ e. ⌜ e ≡ jumpOf x to ⌝ }
-{
-    if x == 0 {
-        return Eff::Next;
-    }
-    Eff::Go(to)
-}
-
 // Ops 50 and 51: on where the cell is not 0, else the run stops with 12 or 13.
 fn holds(x: u32, op: u8) -> Eff
     requires { ⌜ (0x50 ≤ op) × (op ≤ 0x51) ⌝ }
@@ -137,13 +71,13 @@ fn effect_of(i: Frame, cells: &[u32]) -> Eff
         0x10 => Eff::Put(d, unsigned::add_u(x, y)),
         0x11 => Eff::Put(d, unsigned::sub_u(x, y)),
         0x12 => Eff::Put(d, unsigned::mul_u(x, y)),
-        0x13 => put(d, unsigned::quot_u(x, y)),
-        0x14 => put(d, unsigned::rem_u(x, y)),
-        0x18 => sum(d, x, y),
-        0x19 => difference(d, x, y),
-        0x1a => product(d, x, y),
-        0x1b => put(d, signed::quot_s(x, y)),
-        0x1c => put(d, signed::rem_s(x, y)),
+        0x13 => effect::put(d, unsigned::quot_u(x, y)),
+        0x14 => effect::put(d, unsigned::rem_u(x, y)),
+        0x18 => effect::sum(d, x, y),
+        0x19 => effect::difference(d, x, y),
+        0x1a => effect::product(d, x, y),
+        0x1b => effect::put(d, signed::quot_s(x, y)),
+        0x1c => effect::put(d, signed::rem_s(x, y)),
         0x20 => Eff::Put(d, bits::and_b(x, y)),
         0x21 => Eff::Put(d, bits::or_b(x, y)),
         0x22 => Eff::Put(d, bits::not_b(x)),
@@ -157,7 +91,7 @@ fn effect_of(i: Frame, cells: &[u32]) -> Eff
         0x30 => load_of(i, x, cells),
         0x31 => store_of(i, x, cells),
         0x40 => Eff::Go(i.imm as usize),
-        0x41 => jump(x, i.imm as usize),
+        0x41 => effect::jump(x, i.imm as usize),
         0x50..=0x51 => holds(x, op),
         _ => Eff::Leave,
     }

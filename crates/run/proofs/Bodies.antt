@@ -27,8 +27,8 @@ use Rattle.kernel.specs.Machine.{Job, Control as Place, running, over, Machine,
 use Rattle.kernel.specs.Step.{due, paid, runsOn, perform, view, effectOf, advance, step, steps}
 use Rattle.kernel.proofs.Fits.{Fits, fits-step}
 use Rattle.kernel.proofs.Laws.{step-obeys, step-unpaid}
-use Rattle.plain.specs.declared.Eff.{Eff}
-use Rattle.plain.specs.declared.Eff.the-variants.{Put, Go, Stop, Leave}
+use Rattle.effect.specs.declared.Eff.{Eff}
+use Rattle.effect.specs.declared.Eff.the-variants.{Put, Go, Stop, Leave}
 use Rattle.plain.specs.declared.End.{End}
 use Rattle.plain.specs.declared.End.the-variants.{Ended, Left, Stopped}
 use Rattle.plain.specs.Plain.{isPlain, seen, afterDeed, asEff, plainEffect, Out as PlainOut, out as plainOut, when, after as afterEff, plain}

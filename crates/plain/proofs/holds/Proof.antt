@@ -3,19 +3,15 @@ use borrow.Author.Needs.{needs}
 use Rattle.plain.proofs.holds.Statement.{statement}
 use Rattle.plain.proofs.holds.Tie as tie
 
--- src/lib.rt:85:32
 sub-t4 : tie.Need-sub-t4
 sub-t4 c = search needs
 
--- src/lib.rt:85:26
 add-t5 : tie.Need-add-t5
 add-t5 c = search needs
 
--- src/lib.rt:85:9
 returns : tie.Need-returns
 returns c = search (hold-fails, hold-passes, needs)
 
--- src/lib.rt:80:1
 returns-2 : tie.Need-returns-2
 returns-2 c = search (hold-fails, hold-passes, needs)
 

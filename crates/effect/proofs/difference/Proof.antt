@@ -2,9 +2,9 @@ use borrow.Author.Needs.{needs}
 use lib.IntN.{_-ℤ_}
 use Rattle.word.specs.Word.{subS}
 use Rattle.word.proofs.Operands.{asked, difference-fits}
-use Rattle.plain.proofs.Arms.{put-exact}
-use Rattle.plain.proofs.difference.Statement.{statement}
-use Rattle.plain.proofs.difference.Tie as tie
+use Rattle.effect.proofs.Puts.{put-exact}
+use Rattle.effect.proofs.difference.Statement.{statement}
+use Rattle.effect.proofs.difference.Tie as tie
 
 wide-requires : tie.Need-wide-requires
 wide-requires c κs = search needs

@@ -1,7 +1,7 @@
-use Rattle.plain.proofs.Arms.{put-value, put-zero, put-range}
+use Rattle.effect.proofs.Puts.{put-value, put-zero, put-range}
 use borrow.Author.Needs.{needs}
-use Rattle.plain.proofs.put.Statement.{statement}
-use Rattle.plain.proofs.put.Tie as tie
+use Rattle.effect.proofs.put.Statement.{statement}
+use Rattle.effect.proofs.put.Tie as tie
 
 enum-known-r : tie.Need-enum-known-r
 enum-known-r c = search needs

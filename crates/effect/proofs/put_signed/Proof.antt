@@ -9,8 +9,8 @@ use mir.ValLaws.{toZ-ofZ}
 use Rattle.word.specs.Word.{narrow, bitsOf}
 use Rattle.word.specs.TwosComplement.{in-range, out-of-range}
 use Rattle.word.proofs.Signs.{under, over, within}
-use Rattle.plain.proofs.put_signed.Statement.{statement}
-use Rattle.plain.proofs.put_signed.Tie as tie
+use Rattle.effect.proofs.put_signed.Statement.{statement}
+use Rattle.effect.proofs.put_signed.Tie as tie
 
 returns : tie.Need-returns
 unfolding narrow
