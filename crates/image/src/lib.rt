@@ -162,7 +162,7 @@ fn judge_body(table: &[u64], c: Counts, k: usize, n: u32, at: usize) -> Checked
             return Checked::Wrong(Verdict::Short(line));
         }
         let f = frame::decode(table[line]);
-        match frame::fault_of(c, kind, n, f) {
+        match fault::fault_of(c, kind, n, f) {
             Fault::Nothing => {}
             Fault::Op => {
                 return Checked::Wrong(Verdict::Op(line));

@@ -1,7 +1,7 @@
 use Rattle.frame.specs.Laws.{fault-laws}
 use borrow.Author.Needs.{needs}
-use Rattle.frame.proofs.fault_of.Statement.{statement}
-use Rattle.frame.proofs.fault_of.Tie as tie
+use Rattle.fault.proofs.fault_of.Statement.{statement}
+use Rattle.fault.proofs.fault_of.Tie as tie
 
 uses-of-requires : tie.Need-uses-of-requires
 uses-of-requires c κs = search needs

@@ -1,7 +1,7 @@
 use Rattle.frame.specs.Fault.{fits}
 use borrow.Author.Needs.{needs}
-use Rattle.frame.proofs.in_range.Statement.{statement}
-use Rattle.frame.proofs.in_range.Tie as tie
+use Rattle.fault.proofs.in_range.Statement.{statement}
+use Rattle.fault.proofs.in_range.Tie as tie
 
 enum-told : tie.Need-enum-told
 enum-told c = search needs
