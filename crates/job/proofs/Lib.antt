@@ -2,5 +2,4 @@ pub mod Reading
 pub mod Puts
 pub mod Stages
 pub mod Unique
-pub mod Cap
 pub mod Longest

@@ -18,9 +18,9 @@ use Rattle.lines.specs.Text.{Outcome, reading}
 use Rattle.kernel.specs.Run.{Answer, asked}
 use Rattle.run.specs.Code.{jobOf}
 use Rattle.run.proofs.Ends.{few-counts}
-use Rattle.job.specs.JobLines.{afterLine, budgetOf, Numbers, these, malformed, numbersOf}
-use Rattle.job.specs.Printing.{answerLine, cellLines, shown, refusal, mostPrinted}
-use Rattle.job.specs.Whole.{fromTable, fromImage, byInputs, fromInputs, byChoices, fromChoices, byBudget, printed}
+use Rattle.program.specs.JobLines.{afterLine, budgetOf, Numbers, these, malformed, numbersOf}
+use Rattle.program.specs.Printing.{answerLine, cellLines, shown, refusal, mostPrinted}
+use Rattle.program.specs.Whole.{fromTable, fromImage, byInputs, fromInputs, byChoices, fromChoices, byBudget, printed}
 use Rattle.job.proofs.Puts.{length-line, length-cells}
 use Rattle.job.proofs.Stages.{table-good}
 

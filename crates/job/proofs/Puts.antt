@@ -5,8 +5,7 @@ use mathlib.Core.Bool.{Bool, true, false}
 use mathlib.Core.List.{List, [], _∷_, _++_, append-nil}
 use native.Mathlib.Omega.{arith}
 use native.Mathlib.Numerals.{add-one}
-use borrow.Author.Tests.{le-leb, lt-leb}
-use lib.Dec.{leb}
+use borrow.Author.Tests.{le-leb}
 use lib.ListN.{length, getD, set, drop, length-append}
 use lib.Seq.{sets, drop-cons}
 use Rattle.laws.specs.Choice.{between}
@@ -14,8 +13,8 @@ use Rattle.laws.specs.Lists.{over, drop-all, stored, sets-append}
 use Rattle.hex.specs.Hex.{hex, written}
 use Rattle.hex.specs.Laws.{length-hex}
 use Rattle.kernel.specs.Run.{Answer}
-use Rattle.job.specs.Printing.{field, stopFields, countFields, answerLine, cellLines, shown}
-use Rattle.job.specs.Whole.{wrote, put}
+use Rattle.program.specs.Printing.{field, stopFields, countFields, answerLine, cellLines, shown}
+use Rattle.program.specs.Whole.{wrote, put}
 
 -- how long things are
 length-field : (n x end : ℕ) → length (field n x end) ≡ n + 1
@@ -81,15 +80,6 @@ cells-turn l m ys xs i at h a e g =
 pub cells-end : (l ys xs : List ℕ) (i : ℕ) → length xs ≤ i → sets l (44 + 9 * i) (cellLines (drop i xs)) ≡ ys → l ≡ ys
 unfolding cellLines
 cells-end l ys xs i h e = rw (drop-all xs i h) at e
-
--- "A refusal (1 to 9)"
-pub not-refusal : (n : ℕ) → n < 1 → false ≡ between 1 n 9
-not-refusal n h = rw (lt-leb 1 n h)
-
-pub to-nine : (n : ℕ) → 1 ≤ n → leb n 9 ≡ between 1 n 9
-to-nine n h = rw (le-leb 1 n h)
-
-pub ruleset refusal-laws = (not-refusal, to-nine)
 
 put-is : (n : ℕ) (m t l : List ℕ) → length t ≡ n → m ≡ over t l → wrote n m ≡ put t l
 put-is n m t l e g = rw (g, ← e)

@@ -28,9 +28,9 @@ use Rattle.run.proofs.Ends.{few-counts}
 use Rattle.job.specs.declared.Listed.{Listed}
 use Rattle.job.specs.declared.Listed.the-variants.{Count, Broken}
 use Rattle.job.specs.Steps.{listed, countOf}
-use Rattle.job.specs.JobLines.{lineLength, afterLine, budgetOf, numbersOf}
-use Rattle.job.specs.Printing.{shown, refusal, mostPrinted}
-use Rattle.job.specs.Whole.{firstCells, fromTable, byImage, fromImage, fromInputs, fromChoices, printed, Written, wrote, put, answered}
+use Rattle.program.specs.JobLines.{lineLength, afterLine, budgetOf, numbersOf}
+use Rattle.program.specs.Printing.{shown, refusal, mostPrinted}
+use Rattle.program.specs.Whole.{firstCells, fromTable, byImage, fromImage, fromInputs, fromChoices, printed, Written, wrote, put, answered}
 
 -- the run of a table, printed
 pub table-shown : (t ch ins cs out : List ℕ) (b : ℕ) (a : Answer) (f : Frame) (w : Written) → record { answer = a; cells = cs } ≡ asked (jobOf t ch ins b) (replicate mostCells 0) → f ≡ fields (getD t 0 0) → w ≡ put (shown a (take (f .imm) cs)) out → w ≡ put (fromTable (jobOf t ch ins b)) out

@@ -3,7 +3,7 @@ use Prim.Native.Nat.{ℕ}
 use mathlib.Core.Path.{_≡_, ap}
 use mathlib.Core.List.{List}
 use Rattle.laws.specs.Unique.{one-value}
-use Rattle.job.specs.Whole.{Written, wrote, answered}
+use Rattle.program.specs.Whole.{Written, wrote, answered}
 
 pub one-answer : (job out x y : List ℕ) (m n : ℕ) → wrote m x ≡ answered job out → wrote n y ≡ answered job out → (m ≡ n) × (x ≡ y)
 one-answer job out x y m n p q =

@@ -4,7 +4,7 @@ use Prim.Native.Nat.{ℕ}
 use lib.ListN.{take}
 use Rattle.job.specs.declared.Listed.{Listed}
 use Rattle.job.specs.declared.Listed.the-variants.{Count, Broken}
-use Rattle.job.specs.JobLines.{Numbers, these, malformed}
+use Rattle.program.specs.JobLines.{Numbers, these, malformed}
 
 -- so many numbers, which stand at the start of a list
 abbrev pub listed : Listed → List ℕ → Numbers

@@ -6,13 +6,12 @@ ghost use mathlib.Core.Path.{_≡_};
 ghost use Prim.Native.Nat.{_+_, _*_, _≤_};
 ghost use lib.ListN.{length};
 ghost use lib.Seq.{sets};
-ghost use Rattle.laws.specs.Choice.{between};
 ghost use Rattle.image.specs.Limits.{mostChoices, mostInputs};
 ghost use Rattle.image.specs.Judge.{judged};
 ghost use Rattle.run.specs.Code.{said, jobOf};
-ghost use Rattle.job.specs.JobLines.{lineLength, budgetOf, numbersFrom, numbersOf};
-ghost use Rattle.job.specs.Printing.{field, stopFields, countFields, answerLine, cellLines, shown, refusal, mostPrinted};
-ghost use Rattle.job.specs.Whole.{fromTable, fromImage, fromInputs, fromChoices, printed, wrote, put, answered};
+ghost use Rattle.program.specs.JobLines.{lineLength, budgetOf, numbersFrom, numbersOf};
+ghost use Rattle.program.specs.Printing.{field, stopFields, countFields, answerLine, cellLines, shown, refusal, mostPrinted};
+ghost use Rattle.program.specs.Whole.{fromTable, fromImage, fromInputs, fromChoices, printed, wrote, put, answered};
 ghost use Rattle.job.specs.Steps.{listed, countOf};
 
 // The bytes of the answer's line, of a cell's line, and of the longest answer.
@@ -33,20 +32,6 @@ pub const LONGEST_JOB: usize = 9
 enum Listed {
     Count(usize),
     Broken,
-}
-
-// The bytes before the first 0a.
-fn line_length(text: &[u8]) -> usize
-    ensures { λ r. ⌜ r ≡ lineLength (now (text .entry)) ⌝ }
-{
-    let mut i: usize = 0;
-    while i < text.len() {
-        if text[i] == b'\n' {
-            return i;
-        }
-        i = i + 1;
-    }
-    i
 }
 
 // The budget on the first line, which is so long.
@@ -180,22 +165,13 @@ fn put_cells(cells: &[u32], out: &mut [u8])
     }
 }
 
-fn is_refusal(number: u32) -> bool
-    ensures { λ r. ⌜ r ≡ between 1 number 9 ⌝ }
-{
-    if number < 1 {
-        return false;
-    }
-    number <= 9
-}
-
 // Writes an answer and, unless it is a refusal, the cells.
 fn show(a: Answer, cells: &[u32], out: &mut [u8]) -> usize
     requires { ⌜ 44 + 9 * length (now cells) ≤ length (now out) ⌝ }
     ensures { λ r. ⌜ wrote r (now (out .exit)) ≡ put (shown (said a) (now (cells .entry))) (now (out .entry)) ⌝ }
 {
     put_answer(a, out);
-    if is_refusal(a.number) {
+    if program::is_refusal(a.number) {
         return ANSWER_LINE;
     }
     put_cells(cells, out);
@@ -253,7 +229,7 @@ fn from_inputs(text: &[u8], choices: &[u8], budget: u32, out: &mut [u8]) -> usiz
     ensures { λ r. ⌜ wrote r (now (out .exit)) ≡ put (fromInputs budget (now (choices .entry)) (now (text .entry))) (now (out .entry)) ⌝ }
 {
     let mut inputs = [0u32; Image::INPUTS];
-    let line = line_length(text);
+    let line = program::line_length(text);
     let Listed::Count(n) = inputs_of(text, line, &mut inputs) else {
         return refuse(9, 2, out);
     };
@@ -267,7 +243,7 @@ fn from_choices(text: &[u8], budget: u32, out: &mut [u8]) -> usize
     ensures { λ r. ⌜ wrote r (now (out .exit)) ≡ put (fromChoices budget (now (text .entry))) (now (out .entry)) ⌝ }
 {
     let mut choices = [0u8; Image::CHOICES];
-    let line = line_length(text);
+    let line = program::line_length(text);
     let Listed::Count(n) = choices_of(text, line, &mut choices) else {
         return refuse(9, 1, out);
     };
@@ -280,7 +256,7 @@ fn print(job: &[u8], out: &mut [u8]) -> usize
     requires { ⌜ mostPrinted ≤ length (now out) ⌝ }
     ensures { λ r. ⌜ wrote r (now (out .exit)) ≡ put (printed (now (job .entry))) (now (out .entry)) ⌝ }
 {
-    let line = line_length(job);
+    let line = program::line_length(job);
     let Number::Is(budget) = budget_of(job, line) else {
         return refuse(9, 0, out);
     };

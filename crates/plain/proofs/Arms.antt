@@ -10,12 +10,12 @@ use lib.Dec.{T, eqb, leb}
 use lib.ListN.{length, getD, set, List·getD-eq-default}
 use lib.Seq.{set-out}
 use Rattle.laws.specs.Choice.{if_then_else_}
-use Rattle.laws.specs.Span.{Arm, Each, AllTold, Rest, Outside, in-span, the-rest}
+use Rattle.laws.specs.Span.{Arm, AllTold, Rest, Outside, in-span, the-rest}
 use Rattle.word.specs.Word.{Result, value, stop}
 use Rattle.frame.specs.declared.Frame.{Frame}
 use Rattle.frame.specs.Ops.{Meaning, takesImm, takesInput, one, two, may, load, store, goto, gotoIf, holds, waitEvent, waitTime, notify, notifyAfter, request, suspend, resume, startLimit, start, unknown, meaningOf}
 use Rattle.kernel.specs.Kernel.{nothing}
-use Rattle.kernel.specs.Effect.{sets, stops, goes, does, stopIf, setsTo, goesIf, effect}
+use Rattle.kernel.specs.Effect.{sets, does, stopIf, setsTo, goesIf, effect}
 use Rattle.effect.specs.Parts.{putOf, jumpOf}
 use Rattle.effect.specs.declared.Eff.{Eff}
 use Rattle.effect.specs.declared.Eff.the-variants.{Put, Next, Go, Stop, Leave}

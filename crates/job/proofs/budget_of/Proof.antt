@@ -1,4 +1,4 @@
-use Rattle.job.proofs.Reading.{budget-laws}
+use Rattle.program.proofs.Lines.{budget-laws}
 use borrow.Author.Needs.{needs}
 use Rattle.job.proofs.budget_of.Statement.{statement}
 use Rattle.job.proofs.budget_of.Tie as tie

@@ -3,7 +3,7 @@ use mathlib.Core.Path.{_≡_, refl}
 use borrow.Author.Needs.{needs}
 use lib.ListN.{length, drop}
 use lib.Seq.{sets}
-use Rattle.job.specs.Printing.{cellLines}
+use Rattle.program.specs.Printing.{cellLines}
 use Rattle.job.proofs.Puts.{cells-turn, cells-end}
 use Rattle.job.proofs.put_cells.Statement.{statement}
 use Rattle.job.proofs.put_cells.Tie as tie

@@ -17,8 +17,8 @@ use Rattle.image.specs.Limits.{mostLines, mostChoices, mostInputs}
 use Rattle.image.specs.Judge.{Said, say, judged}
 use Rattle.lines.specs.Text.{lineAt, before as frameBefore, framesFrom, frames, more, settled, Outcome, outcome, readAs, reading}
 use Rattle.lines.proofs.Cap.{looking, same-answer, same-frames}
-use Rattle.job.specs.JobLines.{lineLength, ended, afterLine, budgetOf, Numbers, these, malformed, numbersFrom, numbersOf}
-use Rattle.job.specs.Whole.{byImage, fromImage, byInputs, fromInputs, byChoices, fromChoices, byBudget, printed, longestJob}
+use Rattle.program.specs.JobLines.{lineLength, ended, afterLine, budgetOf, Numbers, these, malformed, numbersFrom, numbersOf}
+use Rattle.program.specs.Whole.{byImage, fromImage, byInputs, fromInputs, byChoices, fromChoices, byBudget, printed, longestJob}
 
 -- tests against two bounds that agree
 leb-same : (x y z : ℕ) → (x ≤ y → x ≤ z) → (x ≤ z → x ≤ y) → leb x y ≡ leb x z

@@ -1,6 +1,6 @@
-use Rattle.job.proofs.Puts.{refusal-laws}
-use Rattle.job.proofs.is_refusal.Statement.{statement}
-use Rattle.job.proofs.is_refusal.Tie as tie
+use Rattle.program.proofs.Refusals.{refusal-laws}
+use Rattle.program.proofs.is_refusal.Statement.{statement}
+use Rattle.program.proofs.is_refusal.Tie as tie
 
 returns : tie.Need-returns
 returns c = search refusal-laws

@@ -2,10 +2,10 @@ use Prim.Native.Nat.{_+_, _-_, _≤_}
 use mathlib.Core.Path.{_≡_}
 use borrow.Author.Needs.{needs}
 use lib.ListN.{length, drop}
-use Rattle.job.specs.JobLines.{lineLength}
-use Rattle.job.proofs.Reading.{line-laws}
-use Rattle.job.proofs.line_length.Statement.{statement}
-use Rattle.job.proofs.line_length.Tie as tie
+use Rattle.program.specs.JobLines.{lineLength}
+use Rattle.program.proofs.Lines.{line-laws}
+use Rattle.program.proofs.line_length.Statement.{statement}
+use Rattle.program.proofs.line_length.Tie as tie
 
 abbrev Inv-loop : tie.InvT-loop
 Inv-loop text i₀ i = (i ≤ length text) × (lineLength text ≡ i + lineLength (drop i text))

@@ -14,8 +14,8 @@ use Rattle.kernel.specs.Design.{cells}
 use Rattle.kernel.specs.Machine.{Job}
 use Rattle.kernel.specs.Run.{Outcome as Ran, asked}
 use Rattle.run.specs.Code.{jobOf}
-use Rattle.job.specs.JobLines.{afterLine, budgetOf, Numbers, these, malformed, numbersOf}
-use Rattle.job.specs.Printing.{shown, refusal, mostPrinted}
+use Rattle.program.specs.JobLines.{afterLine, budgetOf, Numbers, these, malformed, numbersOf}
+use Rattle.program.specs.Printing.{shown, refusal, mostPrinted}
 
 -- what is printed of a run: "then, unless refused, each of the C cells", which are the first
 abbrev pub firstCells : ℕ → Ran → List ℕ

@@ -15,9 +15,9 @@ use Rattle.kernel.specs.Effect.{effect}
 use Rattle.kernel.specs.Machine.{when_then_else_, given_orElse_take_}
 use Rattle.kernel.specs.Step.{perform, atEnd, stepFrom, step, steps}
 use Rattle.kernel.specs.Run.{runs, asked}
-use Rattle.job.specs.JobLines.{lineLength, ended, budgetOf, numbersFrom, numbersOf}
-use Rattle.job.specs.Printing.{field, stopFields, countFields, answerLine, cellLines, shown}
-use Rattle.job.specs.Whole.{fromTable, fromImage, fromInputs, fromChoices, printed}
+use Rattle.program.specs.JobLines.{lineLength, ended, budgetOf, numbersFrom, numbersOf}
+use Rattle.program.specs.Printing.{field, stopFields, countFields, answerLine, cellLines, shown}
+use Rattle.program.specs.Whole.{fromTable, fromImage, fromInputs, fromChoices, printed}
 
 abbrev wholeJob : List ℕ
 wholeJob =

@@ -1,0 +1,4 @@
+pub mod JobLines
+pub mod Printing
+pub mod Whole
+pub mod Example
