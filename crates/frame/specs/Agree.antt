@@ -1,4 +1,4 @@
--- The table's two columns agree: a cell that an op's meaning reads or writes, and an event that it names, stands in a field that the op uses so.
+-- The table's two columns agree: a cell that an op's meaning reads or writes, and an event or update that it names, stands in a field that the op uses so.
 use Prim.Native.Nat.{ℕ, _+_, _≤_, _<_}
 use mathlib.Core.Path.{_≡_, refl, sym, ap, _∙_}
 use mathlib.Core.Bool.{Bool, true, false, _&&_}
@@ -41,6 +41,17 @@ isEvent Length = false
 isEvent Region = false
 isEvent Target = false
 
+abbrev isUpdate : Use → Bool
+isUpdate Update = true
+isUpdate Cell = false
+isUpdate Unused = false
+isUpdate Event = false
+isUpdate Thread = false
+isUpdate Number = false
+isUpdate Length = false
+isUpdate Region = false
+isUpdate Target = false
+
 abbrev isRegion : Use → Bool
 isRegion Region = true
 isRegion Cell = false
@@ -59,32 +70,33 @@ pub record Cells : Type 0 where
   pub b : Bool
   pub region : Bool
   pub event : Bool
+  pub update : Bool
 
-abbrev cells : (d a b region event : Bool) → Cells
-cells d a b region event = record { d = d; a = a; b = b; region = region; event = event }
+abbrev cells : (d a b region event update : Bool) → Cells
+cells d a b region event update = record { d = d; a = a; b = b; region = region; event = event; update = update }
 
--- the fields that a meaning takes for cells, and whether it takes imm for a region and d for an event
+-- the fields that a meaning takes for cells, and whether it takes imm for a region and d for an event or an update
 abbrev pub named : Meaning → Cells
-named takesImm = cells true false false false false
-named takesInput = cells true false false false false
-named (one f) = cells true true false false false
-named (two f) = cells true true true false false
-named (may f) = cells true true true false false
-named load = cells true true false true false
-named store = cells true true false true false
-named goto = cells false false false false false
-named gotoIf = cells false true false false false
-named (holds n) = cells false true false false false
-named waitEvent = cells false false false false true
-named waitTime = cells false true false false false
-named notify = cells false false false false true
-named notifyAfter = cells false true false false true
-named request = cells false false false false false
-named suspend = cells false false false false false
-named resume = cells false false false false false
-named startLimit = cells false false false false false
-named start = cells false false false false false
-named unknown = cells false false false false false
+named takesImm = cells true false false false false false
+named takesInput = cells true false false false false false
+named (one f) = cells true true false false false false
+named (two f) = cells true true true false false false
+named (may f) = cells true true true false false false
+named load = cells true true false true false false
+named store = cells true true false true false false
+named goto = cells false false false false false false
+named gotoIf = cells false true false false false false
+named (holds n) = cells false true false false false false
+named waitEvent = cells false false false false true false
+named waitTime = cells false true false false false false
+named notify = cells false false false false true false
+named notifyAfter = cells false true false false true false
+named request = cells false false false false false true
+named suspend = cells false false false false false false
+named resume = cells false false false false false false
+named startLimit = cells false false false false false false
+named start = cells false false false false false false
+named unknown = cells false false false false false false
 
 abbrev implies : Bool → Bool → Bool
 implies true y = y
@@ -93,7 +105,7 @@ implies false y = true
 abbrev agree : Cells → Uses → Bool
 agree c u =
     implies (c .d) (isCell (u .d)) && implies (c .a) (isCell (u .a)) && implies (c .b) (isCell (u .b))
-    && implies (c .region) (isRegion (u .imm)) && implies (c .event) (isEvent (u .d))
+    && implies (c .region) (isRegion (u .imm)) && implies (c .event) (isEvent (u .d)) && implies (c .update) (isUpdate (u .d))
 
 abbrev allAgree : List Row → Bool
 allAgree [] = true
@@ -135,6 +147,7 @@ pub record InCells (c : Counts) (f : Frame) (m : Meaning) : Type 0 where
   pub b-in : named m .b ≡ true → f .b < c .cells
   pub region-in : named m .region ≡ true → f .imm + f .b ≤ c .cells
   pub event-in : named m .event ≡ true → f .d < c .events
+  pub update-in : named m .update ≡ true → f .d < c .updates
 
 module _ (c : Counts) (n b x : ℕ) where
   by-cell : (u : Use) → isCell u ≡ true → fits c n b u x ≡ true → x < c .cells
@@ -173,36 +186,51 @@ module _ (c : Counts) (n b x : ℕ) where
   by-event Region e f = absurd (false-true e)
   by-event Target e f = absurd (false-true e)
 
+  by-update : (u : Use) → isUpdate u ≡ true → fits c n b u x ≡ true → x < c .updates
+  unfolding fits
+  by-update Update e f = ltb-true x (c .updates) f
+  by-update Cell e f = absurd (false-true e)
+  by-update Unused e f = absurd (false-true e)
+  by-update Event e f = absurd (false-true e)
+  by-update Thread e f = absurd (false-true e)
+  by-update Number e f = absurd (false-true e)
+  by-update Length e f = absurd (false-true e)
+  by-update Region e f = absurd (false-true e)
+  by-update Target e f = absurd (false-true e)
+
 follows : (a b : Bool) → implies a b ≡ true → a ≡ true → b ≡ true
 follows true b e h = e
 follows false b e h = absurd (false-true h)
 
--- the parts of a conjunction of five tests, and of four
-pub record Five (a b c d e : Bool) : Type 0 where
+-- the parts of a conjunction of six tests; of four, with two that hold before them
+pub record Six (a b c d e f : Bool) : Type 0 where
   pub p : a ≡ true
   pub q : b ≡ true
   pub r : c ≡ true
   pub s : d ≡ true
   pub t : e ≡ true
+  pub u : f ≡ true
 
-five : (a b c d e : Bool) → a && b && c && d && e ≡ true → Five a b c d e
-five true true true true true h = record { p = refl; q = refl; r = refl; s = refl; t = refl }
-five true true true true false h = absurd (false-true h)
-five true true true false e h = absurd (false-true h)
-five true true false d e h = absurd (false-true h)
-five true false c d e h = absurd (false-true h)
-five false b c d e h = absurd (false-true h)
+six : (a b c d e f : Bool) → a && b && c && d && e && f ≡ true → Six a b c d e f
+six true true true true true true h = record { p = refl; q = refl; r = refl; s = refl; t = refl; u = refl }
+six true true true true true false h = absurd (false-true h)
+six true true true true false f h = absurd (false-true h)
+six true true true false e f h = absurd (false-true h)
+six true true false d e f h = absurd (false-true h)
+six true false c d e f h = absurd (false-true h)
+six false b c d e f h = absurd (false-true h)
 
 pub in-cells : (c : Counts) (kind : Kind) (n : ℕ) (f : Frame) → Sound c kind n f → InCells c f (meaningOf (f .op))
 in-cells c kind n f s =
     let u : Uses = s .uses in
     let m : Cells = named (meaningOf (f .op)) in
-    let g : Five (implies (m .d) (isCell (u .d))) (implies (m .a) (isCell (u .a))) (implies (m .b) (isCell (u .b))) (implies (m .region) (isRegion (u .imm))) (implies (m .event) (isEvent (u .d))) = five _ _ _ _ _ (agreed (f .op) u (s .known)) in
-    let h : Five true (fits c n (f .b) (u .d) (f .d)) (fits c n (f .b) (u .a) (f .a)) (fits c n (f .b) (u .b) (f .b)) (fits c n (f .b) (u .imm) (f .imm)) = five true _ _ _ _ (s .fit) in
+    let g : Six (implies (m .d) (isCell (u .d))) (implies (m .a) (isCell (u .a))) (implies (m .b) (isCell (u .b))) (implies (m .region) (isRegion (u .imm))) (implies (m .event) (isEvent (u .d))) (implies (m .update) (isUpdate (u .d))) = six _ _ _ _ _ _ (agreed (f .op) u (s .known)) in
+    let h : Six true true (fits c n (f .b) (u .d) (f .d)) (fits c n (f .b) (u .a) (f .a)) (fits c n (f .b) (u .b) (f .b)) (fits c n (f .b) (u .imm) (f .imm)) = six true true _ _ _ _ (s .fit) in
     record {
-      d-in = λ k. by-cell c n (f .b) (f .d) (u .d) (follows (m .d) (isCell (u .d)) (g .p) k) (h .q);
-      a-in = λ k. by-cell c n (f .b) (f .a) (u .a) (follows (m .a) (isCell (u .a)) (g .q) k) (h .r);
-      b-in = λ k. by-cell c n (f .b) (f .b) (u .b) (follows (m .b) (isCell (u .b)) (g .r) k) (h .s);
-      region-in = λ k. by-region c n (f .b) (f .imm) (u .imm) (follows (m .region) (isRegion (u .imm)) (g .s) k) (h .t);
-      event-in = λ k. by-event c n (f .b) (f .d) (u .d) (follows (m .event) (isEvent (u .d)) (g .t) k) (h .q);
+      d-in = λ k. by-cell c n (f .b) (f .d) (u .d) (follows (m .d) (isCell (u .d)) (g .p) k) (h .r);
+      a-in = λ k. by-cell c n (f .b) (f .a) (u .a) (follows (m .a) (isCell (u .a)) (g .q) k) (h .s);
+      b-in = λ k. by-cell c n (f .b) (f .b) (u .b) (follows (m .b) (isCell (u .b)) (g .r) k) (h .t);
+      region-in = λ k. by-region c n (f .b) (f .imm) (u .imm) (follows (m .region) (isRegion (u .imm)) (g .s) k) (h .u);
+      event-in = λ k. by-event c n (f .b) (f .d) (u .d) (follows (m .event) (isEvent (u .d)) (g .t) k) (h .r);
+      update-in = λ k. by-update c n (f .b) (f .d) (u .d) (follows (m .update) (isUpdate (u .d)) (g .u) k) (h .r);
     }

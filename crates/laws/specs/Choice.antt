@@ -1,9 +1,10 @@
 -- A choice by a test, and what tests say when they are put together.
 use Prim.Native.Nat.{ℕ}
 use mathlib.Core.Path.{_≡_, refl}
-use mathlib.Core.Bool.{Bool, true, false, not, _&&_}
+use mathlib.Core.Bool.{Bool, true, false, _&&_}
 use native.Mathlib.Omega.{arith}
-use lib.Dec.{leb}
+use lib.Dec.{eqb, leb}
+use borrow.Author.Tests.{eq-eqb, ne-eqb}
 
 infix 10 if_then_else_
 -- the first where the test holds, else the second
@@ -30,3 +31,22 @@ and-right true b e = e
 and-right false b e =
     let z : _≡_ {A = ℕ} 0 1 = cc in
     absurd (omega arith)
+
+-- a test of a definition that the code has made
+module _ (A : Type 0) (x y z : A) where
+  module _ (a b : ℕ) where
+    pub pick-eq : a ≡ b → x ≡ y → x ≡ if eqb a b then y else z
+    pick-eq h e = rw (eq-eqb a b h) e
+
+    pub pick-ne : (a ≡ b → ⊥) → x ≡ z → x ≡ if eqb a b then y else z
+    pick-ne h e = rw (ne-eqb a b h) e
+
+  -- the test of a set, whose answer is b
+  module _ (b c : Bool) where
+    pub pick-in : b ≡ c → b ≡ true → x ≡ y → x ≡ if c then y else z
+    pick-in h k e = rw (← h, k) e
+
+    pub pick-out : b ≡ c → b ≡ false → x ≡ z → x ≡ if c then y else z
+    pick-out h k e = rw (← h, k) e
+
+pub ruleset picks = (pick-eq, pick-ne, pick-in, pick-out, refl)

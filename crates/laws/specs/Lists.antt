@@ -5,8 +5,8 @@ use mathlib.Core.List.{List, [], _∷_, _++_}
 use native.Mathlib.Omega.{arith}
 use native.Mathlib.Numerals.{add-one}
 use native.Mathlib.Nat.{add-zero}
-use lib.ListN.{length, getD, set, drop}
-use lib.Seq.{sets, sets-eq, set-comm, drop-cons, drop-nil}
+use lib.ListN.{length, getD, set, drop, List·getD-eq-default}
+use lib.Seq.{sets, sets-eq, set-comm, set-out, drop-cons, drop-nil}
 
 -- `new` from the start of a buffer on, the rest of it untouched
 abbrev pub over : List ℕ → List ℕ → List ℕ
@@ -44,3 +44,13 @@ copy-turn l xs ys i h e = rw (add-one i) (rw (drop-cons xs i 0 h) at e)
 
 pub copy-end : (l xs ys : List ℕ) (i : ℕ) → length xs ≤ i → sets l i (drop i xs) ≡ ys → l ≡ ys
 copy-end l xs ys i h e = rw (drop-all xs i h) at e
+
+-- a store or a load at a place, or past the end
+module _ (l : List ℕ) (i : ℕ) where
+  pub set-past : (y : ℕ) → length l ≤ i → l ≡ set l i y
+  set-past y h = sym (set-out l i y h)
+
+  pub none-past : length l ≤ i → 0 ≡ getD l i 0
+  none-past h = sym (List·getD-eq-default l 0 h)
+
+pub ruleset stores = (set-past, none-past)

@@ -1,10 +1,5 @@
-pub mod Cells
-pub mod Shows
-pub mod Moves
-pub mod Bodies
-pub mod Obeys
-pub mod Turns
-pub mod Ends
 pub mod Arms
 pub mod Decides
+pub mod Ends
+pub mod Accepted
 pub mod Unique

@@ -1,63 +1,47 @@
 // One run of a design under given choices, inputs and budget.
+use dues::Due;
 use frame::Frame;
 use image::Image;
-use phases::Due;
-use phases::Found;
+use marks::Found;
+use marks::Marks;
 use plain::End;
 use plain::Ran;
+use turns::Choice;
+use turns::Control;
+use turns::Done;
+use turns::Now;
+use turns::Obeyed;
 ghost use mathlib.Core.Path.{_≡_};
-ghost use mathlib.Core.Bool.{true};
-ghost use mathlib.Core.List.{[], map};
+ghost use mathlib.Core.Bool.{true, false};
+ghost use mathlib.Core.List.{[]};
 ghost use Prim.Native.Nat.{_+_, _-_, _*_, _≤_, _<_};
 ghost use lib.ListN.{length, getD, set, replicate};
+ghost use lib.Dec.{ltb};
 ghost use Rattle.kernel.specs.Search.{nth};
 ghost use Rattle.frame.specs.Fields.{fields};
 ghost use Rattle.frame.specs.Ops.{meaningOf};
-ghost use lib.Dec.{ltb};
-ghost use Rattle.phases.specs.Codes.{lastTime, forNothing, firstEvent};
-ghost use Rattle.phases.specs.Phases.{changed, earlierCode, freedCode, resumedCode, suspendCode, resumeCode};
+ghost use Rattle.marks.specs.Marks.{firstAsked, requestedBy, suspended, resumed};
 ghost use Rattle.plain.specs.Plain.{runPlain};
 ghost use Rattle.plain.specs.Laws.{Inside};
-ghost use Rattle.run.specs.Stands.{lists, Firsts};
-ghost use Rattle.run.specs.Code.{Code, code, goesTo, choiceBy, idleOr, evaluated, asked, whenIdle, entersTo, entersAt, servedTo, leastOf, closed, movedTo, timedBy, servedBy, phaseNumber, isThread, endsTo, endsIn, did, isPast, waitsIn, full, dueBy, tookBy, inTime, startsBy, obeyed, staysAt, nextInput, withLeft, completedTo, completedAt, completed, ranTo, afterPlain, bodyRun, turn, isOver, turns, firstNow, firstRan, started, firstLists, zeroed, jobOf, said, refusedAt, answerAs, answered, told};
+ghost use Rattle.shows.specs.Shows.{lists, kept};
+ghost use Rattle.turns.specs.Stands.{Firsts};
+ghost use Rattle.turns.specs.Code.{code, goesTo, marksTo, choiceBy, idleOr, evaluated, whenIdle, entersTo, entersAt, deltaTo, deltaIn, leastOf, closed, movedTo, timedBy, servedBy, phaseNumber, isThread, endsTo, did, isPast, waitCame, waitedOn, waitedTill, triggeredIn, askedIn, addsTime, full, dueBy, tookBy, inTime, startsBy, marked, obeyed, staysAt, nextInput, withLeft, completedTo, completedAt, completed, ranTo, bodyRun, settled, turn, isOver, turns, firstNow, firstRan, started, firstLists, zeroed, refusedAt, answerAs, answered, told};
+ghost use Rattle.run.specs.Code.{jobOf, said};
 ghost use Rattle.image.specs.Layout.{bodies as bodiesOf};
 ghost use Rattle.image.specs.Judge.{judged};
 ghost use Rattle.kernel.specs.Run.{runs, asked as askedFor};
 
-// Where the machine stands: body b runs, a phase, the turn to evaluation or time, or the run is over with number, body and place.
-enum Control {
-    Runs(usize),
-    UpdatePhase,
-    DeltaPhase,
-    Turn,
-    Evaluation,
-    TimePhase,
-    Over(u8, usize, usize),
-}
-
-// All of the machine and the kernel that is a single number. The limit is 2^32 where there is none; the stage is 0 before the
-// phase, 1 in it, 2 after it as quiet, 3 by its limit; left is what is left of the budget.
-struct Now {
-    control: Control,
-    time: u32,
-    limit: u64,
-    stage: u8,
-    left: u32,
-    chosen: usize,
-    taken: usize,
-}
-
-// What an instruction that is not plain came to: it stops the run, goes on, took an input, or begins the phase with a limit.
-enum Obeyed {
-    Stops(u8),
-    Goes,
-    Took,
-    Begins(u64),
-}
-
 // The machine at another place.
 fn to(n: Now, c: Control) -> Now
     ensures { λ r. ⌜ r ≡ goesTo c n ⌝ }
+{
+    let marks = n.marks;
+    to_marks(n, c, marks)
+}
+
+// And with other marks.
+fn to_marks(n: Now, c: Control, marks: Marks) -> Now
+    ensures { λ r. ⌜ r ≡ marksTo c marks n ⌝ }
 {
     Now {
         control: c,
@@ -67,6 +51,7 @@ fn to(n: Now, c: Control) -> Now
         left: n.left,
         chosen: n.chosen,
         taken: n.taken,
+        marks: marks,
     }
 }
 
@@ -77,30 +62,26 @@ fn named(choice: u8) -> usize
     choice as usize
 }
 
-// What the next choice comes to while a thread is runnable: the thread that is dispatched, or the number that the run stops with.
-enum Choice {
-    Thread(u8),
-    Refused(u8),
-}
-
-fn next_choice(choices: &[u8], at: usize, waits: &[u64], modes: &[u8]) -> Choice
-    ensures { λ r. ⌜ r ≡ choiceBy (nth (now (choices .entry)) at) (now (waits .entry)) (now (modes .entry)) ⌝ }
+// What the next choice comes to while a thread is runnable.
+fn next_choice(choices: &[u8], at: usize, marks: Marks) -> Choice
+    ensures { λ r. ⌜ r ≡ choiceBy (nth (now (choices .entry)) at) marks ⌝ }
 {
     if choices.len() <= at {
         return Choice::Refused(20);
     }
     let c = choices[at];
-    if phases::runnable(waits, modes, named(c)) {
+    if marks::runnable(marks, named(c)) {
         return Choice::Thread(c);
     }
     Choice::Refused(21)
 }
 
 // Where no thread is runnable the machine goes to `idle`, else the run is over with k.
-fn idle_or(n: Now, k: u8, idle: Control, waits: &[u64], modes: &[u8]) -> Now
-    ensures { λ r. ⌜ r ≡ idleOr k idle n (now (waits .entry)) (now (modes .entry)) ⌝ }
+fn idle_or(n: Now, k: u8, idle: Control) -> Now
+    ensures { λ r. ⌜ r ≡ idleOr k idle n ⌝ }
 {
-    if phases::any_runnable(waits, modes) {
+    let marks = n.marks;
+    if marks::any_runnable(marks) {
         return to(n, Control::Over(k, 0xff, 0));
     }
     to(n, idle)
@@ -108,11 +89,12 @@ fn idle_or(n: Now, k: u8, idle: Control, waits: &[u64], modes: &[u8]) -> Now
 
 // Evaluation: the next choice names the thread that is dispatched. Where it names a runnable one, no other need be looked at. Where
 // none is runnable the machine goes to `idle`: the updates after evaluation, time after the delta phase.
-fn evaluate(choices: &[u8], n: Now, idle: Control, waits: &[u64], modes: &[u8]) -> Now
-    ensures { λ r. ⌜ r ≡ evaluated (now (choices .entry)) idle n (now (waits .entry)) (now (modes .entry)) ⌝ }
+fn evaluate(choices: &[u8], n: Now, idle: Control) -> Now
+    ensures { λ r. ⌜ r ≡ evaluated (now (choices .entry)) idle n ⌝ }
 {
     let at = n.chosen;
-    let choice = next_choice(choices, at, waits, modes);
+    let marks = n.marks;
+    let choice = next_choice(choices, at, marks);
     match choice {
         Choice::Thread(c) => Now {
             control: Control::Runs(named(c) + 1),
@@ -122,8 +104,9 @@ fn evaluate(choices: &[u8], n: Now, idle: Control, waits: &[u64], modes: &[u8]) 
             left: n.left,
             chosen: at + 1,
             taken: n.taken,
+            marks: marks,
         },
-        Choice::Refused(k) => idle_or(n, k, idle, waits, modes),
+        Choice::Refused(k) => idle_or(n, k, idle),
     }
 }
 
@@ -136,11 +119,12 @@ fn put_place(places: &mut [usize], b: usize, p: usize)
 }
 
 // The update phase: the first requested update runs from its first instruction.
-fn update_phase(n: Now, threads: usize, requests: &[u8], places: &mut [usize]) -> Now
-    requires { ⌜ (threads ≤ 16) × (length (now requests) ≤ 16) ⌝ }
-    ensures { λ r. ⌜ (r ≡ entersTo threads (asked (now (requests .entry))) n) × (now (places .exit) ≡ entersAt threads (asked (now (requests .entry))) (now (places .entry))) ⌝ }
+fn update_phase(n: Now, threads: usize, places: &mut [usize]) -> Now
+    requires { ⌜ threads ≤ 16 ⌝ }
+    ensures { λ r. ⌜ (r ≡ entersTo threads (firstAsked (n .marks)) n) × (now (places .exit) ≡ entersAt threads (firstAsked (n .marks)) (now (places .entry))) ⌝ }
 {
-    let Found::At(u) = phases::first_requested(requests) else {
+    let marks = n.marks;
+    let Found::At(u) = marks::first_requested(marks) else {
         return to(n, Control::DeltaPhase);
     };
     let b = threads + 1 + u;
@@ -149,29 +133,30 @@ fn update_phase(n: Now, threads: usize, requests: &[u8], places: &mut [usize]) -
 }
 
 // Where evaluation leads once no thread is runnable: with no update requested, the delta phase at once.
-fn after_evaluation(requests: &[u8]) -> Control
-    ensures { λ r. ⌜ r ≡ whenIdle (asked (now (requests .entry))) ⌝ }
+fn after_evaluation(marks: Marks) -> Control
+    ensures { λ r. ⌜ r ≡ whenIdle (firstAsked marks) ⌝ }
 {
-    let Found::At(_) = phases::first_requested(requests) else {
+    let Found::At(_) = marks::first_requested(marks) else {
         return Control::DeltaPhase;
     };
     Control::UpdatePhase
 }
 
 // The delta phase: all delta work is done together.
-fn delta_phase(n: Now, pends: &mut [u64], waits: &mut [u64], modes: &mut [u8]) -> Now
-    ensures { λ r. ⌜ r ≡ goesTo Control.Turn n ⌝ }
-    ensures { λ r. ⌜ lists (now (pends .exit)) (now (waits .exit)) (now (modes .exit)) (now (modes .entry)) ≡ servedTo 0 (map resumedCode (now (modes .entry))) (lists (now (pends .entry)) (now (waits .entry)) (now (modes .entry)) (now (modes .entry))) ⌝ }
+fn delta_phase(n: Now, waiters: &mut [u32]) -> Now
+    ensures { λ r. ⌜ r ≡ deltaTo n (lists [] [] (now (waiters .entry))) ⌝ }
+    ensures { λ r. ⌜ lists [] [] (now (waiters .exit)) ≡ deltaIn n (lists [] [] (now (waiters .entry))) ⌝ }
 {
-    phases::serve(0, pends, waits);
-    phases::resume_all(modes);
-    to(n, Control::Turn)
+    let marks = n.marks;
+    let served = phases::serve_delta(marks, waiters);
+    to_marks(n, Control::Turn, served)
 }
 
 // The phase is over, and main goes on.
 fn close(n: Now, stage: u8) -> Now
     ensures { λ r. ⌜ r ≡ closed stage n ⌝ }
 {
+    let marks = n.marks;
     Now {
         control: Control::Runs(0),
         time: n.time,
@@ -180,12 +165,13 @@ fn close(n: Now, stage: u8) -> Now
         left: n.left,
         chosen: n.chosen,
         taken: n.taken,
+        marks: marks,
     }
 }
 
 // The clock moves to t.
-fn move_to(n: Now, t: u32) -> Now
-    ensures { λ r. ⌜ r ≡ movedTo t n ⌝ }
+fn move_to(n: Now, t: u32, marks: Marks) -> Now
+    ensures { λ r. ⌜ r ≡ movedTo t marks n ⌝ }
 {
     Now {
         control: Control::Turn,
@@ -195,22 +181,24 @@ fn move_to(n: Now, t: u32) -> Now
         left: n.left,
         chosen: n.chosen,
         taken: n.taken,
+        marks: marks,
     }
 }
 
 // Time: the phase is quiet where nothing is due, and over where the least due time is above the limit.
-fn time_phase(n: Now, pends: &mut [u64], waits: &mut [u64]) -> Now
-    ensures { λ r. ⌜ r ≡ timedBy (leastOf (now (pends .entry)) (now (waits .entry))) n ⌝ }
-    ensures { λ r. ⌜ lists (now (pends .exit)) (now (waits .exit)) [] [] ≡ servedBy (leastOf (now (pends .entry)) (now (waits .entry))) n (lists (now (pends .entry)) (now (waits .entry)) [] []) ⌝ }
+fn time_phase(n: Now, pends: &mut [u64], waits: &mut [u64], waiters: &mut [u32]) -> Now
+    ensures { λ r. ⌜ r ≡ timedBy (leastOf (lists (now (pends .entry)) (now (waits .entry)) (now (waiters .entry)))) n (lists (now (pends .entry)) (now (waits .entry)) (now (waiters .entry))) ⌝ }
+    ensures { λ r. ⌜ lists (now (pends .exit)) (now (waits .exit)) (now (waiters .exit)) ≡ servedBy (leastOf (lists (now (pends .entry)) (now (waits .entry)) (now (waiters .entry)))) n (lists (now (pends .entry)) (now (waits .entry)) (now (waiters .entry))) ⌝ }
 {
-    let Due::At(t) = phases::least_due(pends, waits) else {
+    let Due::At(t) = dues::least_due(pends, waits) else {
         return close(n, 2);
     };
     if n.limit < t as u64 {
         return close(n, 3);
     }
-    phases::serve(t as u64 + 1, pends, waits);
-    move_to(n, t)
+    let marks = n.marks;
+    let served = phases::serve_time(marks, t as u64 + 1, pends, waits, waiters);
+    move_to(n, t, served)
 }
 
 // 11, 0 or 10, by the stage.
@@ -227,19 +215,21 @@ fn end_number(stage: u8) -> u8
 }
 
 // The end of body b.
-fn end_body(n: Now, b: usize, threads: usize, modes: &mut [u8], requests: &mut [u8]) -> Now
+fn end_body(n: Now, b: usize, threads: usize) -> Now
     ensures { λ r. ⌜ r ≡ endsTo threads b n ⌝ }
-    ensures { λ r. ⌜ lists [] [] (now (modes .exit)) (now (requests .exit)) ≡ endsIn threads b (lists [] [] (now (modes .entry)) (now (requests .entry))) ⌝ }
 {
     if b == 0 {
         return to(n, Control::Over(end_number(n.stage), 0xff, 0));
     }
+    let marks = n.marks;
     if b <= threads {
-        phases::end(modes, b - 1);
-        return to(n, Control::Evaluation);
+        return to_marks(n, Control::Evaluation, marks::end(marks, b - 1));
     }
-    phases::finish(requests, b - 1 - threads);
-    to(n, Control::UpdatePhase)
+    to_marks(
+        n,
+        Control::UpdatePhase,
+        marks::finish(marks, b - 1 - threads),
+    )
 }
 
 // A cell; past the cells it is 0.
@@ -260,28 +250,45 @@ fn put_cell(cells: &mut [u32], d: usize, x: u32)
     }
 }
 
-// Op 03: d takes the next input.
-fn take_input(d: usize, taken: usize, inputs: &[u32], cells: &mut [u32]) -> Obeyed
-    ensures { λ r. ⌜ r ≡ tookBy (nth (now (inputs .entry)) taken) d (lists [] [] [] []) (now (cells .entry)) .came ⌝ }
-    ensures { λ r. ⌜ now (cells .exit) ≡ tookBy (nth (now (inputs .entry)) taken) d (lists [] [] [] []) (now (cells .entry)) .cells ⌝ }
+// What came of an instruction, and the marks after it.
+fn done(came: Obeyed, marks: Marks) -> Done
+    ensures { λ r. ⌜ r ≡ record { came = came; marks = marks } ⌝ }
 {
-    if inputs.len() <= taken {
-        return Obeyed::Stops(19);
+    Done {
+        came: came,
+        marks: marks,
     }
-    put_cell(cells, d, inputs[taken]);
-    Obeyed::Took
 }
 
-// A thread waits for what the number v stands for; no other body does.
-fn wait_for(b: usize, v: u64, waits: &mut [u64])
-    ensures { λ r. ⌜ now (waits .exit) ≡ waitsIn (length (now (waits .entry))) b v (now (waits .entry)) ⌝ }
+// Op 03: d takes the next input.
+fn take_input(d: usize, taken: usize, marks: Marks, inputs: &[u32], cells: &mut [u32]) -> Done
+    ensures { λ r. ⌜ did (r .came) (kept (r .marks) (lists [] [] [])) (now (cells .exit)) ≡ tookBy (nth (now (inputs .entry)) taken) d (kept marks (lists [] [] [])) (now (cells .entry)) ⌝ }
+{
+    if inputs.len() <= taken {
+        return done(Obeyed::Stops(19), marks);
+    }
+    put_cell(cells, d, inputs[taken]);
+    done(Obeyed::Took, marks)
+}
+
+// Body b is a thread.
+fn is_thread(b: usize, threads: usize) -> bool
+    ensures { λ r. ⌜ r ≡ isThread threads b ⌝ }
 {
     if b == 0 {
-        return;
+        return false;
     }
-    if b <= waits.len() {
-        waits[b - 1] = v;
+    b <= threads
+}
+
+// Op 60: wait for event d.
+fn wait_event(b: usize, d: usize, threads: usize, marks: Marks, waiters: &mut [u32]) -> Done
+    ensures { λ r. ⌜ did (r .came) (kept (r .marks) (lists [] [] (now (waiters .exit)))) [] ≡ did (waitCame threads b) (waitedOn threads b d (kept marks (lists [] [] (now (waiters .entry))))) [] ⌝ }
+{
+    if is_thread(b, threads) {
+        return done(Obeyed::Waits, phases::wait_event(marks, waiters, b - 1, d));
     }
+    done(Obeyed::Goes, marks)
 }
 
 // Whether so many events and threads are too few for the due times to be all there can be. Then they need not be counted.
@@ -296,7 +303,7 @@ fn has_room(events: usize, threads: usize) -> bool
 
 // Whether there is no room for the due time q that is to be added.
 fn is_full(adds: bool, q: u64, pends: &[u64], waits: &[u64]) -> bool
-    ensures { λ r. ⌜ r ≡ full adds q (lists (now (pends .entry)) (now (waits .entry)) [] []) ⌝ }
+    ensures { λ r. ⌜ r ≡ full adds q (lists (now (pends .entry)) (now (waits .entry)) []) ⌝ }
 {
     if q == 0 {
         return false;
@@ -305,23 +312,32 @@ fn is_full(adds: bool, q: u64, pends: &[u64], waits: &[u64]) -> bool
         return false;
     }
     if adds {
-        return Image::DUE_TIMES <= phases::count_times(pends, waits);
+        return Image::DUE_TIMES <= dues::count_times(pends, waits);
     }
     false
 }
 
 // Op 61: wait for the time in a.
-fn wait_time(b: usize, q: u64, pends: &[u64], waits: &mut [u64]) -> Obeyed
-    ensures { λ r. ⌜ did r (lists (now (pends .entry)) (now (waits .exit)) [] []) [] ≡ dueBy true q (lists (now (pends .entry)) (now (waits .entry)) [] []) [] (lists (now (pends .entry)) (waitsIn (length (now (waits .entry))) b q (now (waits .entry))) [] []) ⌝ }
+fn wait_time(
+    b: usize,
+    q: u64,
+    threads: usize,
+    marks: Marks,
+    pends: &[u64],
+    waits: &mut [u64],
+) -> Done
+    ensures { λ r. ⌜ did (r .came) (kept (r .marks) (lists (now (pends .entry)) (now (waits .exit)) [])) [] ≡ dueBy true q (kept marks (lists (now (pends .entry)) (now (waits .entry)) [])) [] (did (waitCame threads b) (waitedTill threads b q (kept marks (lists (now (pends .entry)) (now (waits .entry)) []))) []) ⌝ }
 {
-    if phases::LAST_TIME < q {
-        return Obeyed::Stops(17);
+    if dues::LAST_TIME < q {
+        return done(Obeyed::Stops(17), marks);
     }
     if is_full(true, q, pends, waits) {
-        return Obeyed::Stops(23);
+        return done(Obeyed::Stops(23), marks);
     }
-    wait_for(b, q, waits);
-    Obeyed::Goes
+    if is_thread(b, threads) {
+        return done(Obeyed::Waits, phases::wait_time(marks, waits, b - 1, q));
+    }
+    done(Obeyed::Goes, marks)
 }
 
 // Main after the phase may ask nothing of the kernel.
@@ -335,94 +351,97 @@ fn is_past(b: usize, stage: u8) -> bool
 }
 
 // Op 62: notify event d at once.
-fn notify(b: usize, stage: u8, d: usize, pends: &mut [u64], waits: &mut [u64]) -> Obeyed
-    ensures { λ r. ⌜ did r (lists (now (pends .exit)) (now (waits .exit)) [] []) [] ≡ inTime b stage (lists (now (pends .entry)) (now (waits .entry)) [] []) [] (did Obeyed.Goes (lists (set (now (pends .entry)) d forNothing) (map (freedCode d) (now (waits .entry))) [] []) []) ⌝ }
+fn notify(
+    b: usize,
+    stage: u8,
+    d: usize,
+    marks: Marks,
+    pends: &mut [u64],
+    waiters: &mut [u32],
+) -> Done
+    ensures { λ r. ⌜ did (r .came) (kept (r .marks) (lists (now (pends .exit)) [] (now (waiters .exit)))) [] ≡ inTime b stage (kept marks (lists (now (pends .entry)) [] (now (waiters .entry)))) [] (did Obeyed.Goes (triggeredIn d (kept marks (lists (now (pends .entry)) [] (now (waiters .entry))))) []) ⌝ }
 {
     if is_past(b, stage) {
-        return Obeyed::Stops(18);
+        return done(Obeyed::Stops(18), marks);
     }
-    phases::trigger(pends, waits, d);
-    Obeyed::Goes
+    done(Obeyed::Goes, phases::trigger(marks, pends, waiters, d))
 }
 
-// What event e pends for, as its number.
-fn pend_at(pends: &[u64], e: usize) -> u64
-    ensures { λ r. ⌜ r ≡ getD (now (pends .entry)) e 0 ⌝ }
+// Whether event e pends for nothing, so that a due time for it is one more.
+fn adds_time(marks: Marks, pends: &[u64], e: usize) -> bool
+    ensures { λ r. ⌜ r ≡ addsTime e (kept marks (lists (now (pends .entry)) [] [])) ⌝ }
 {
-    if e < pends.len() {
-        return pends[e];
+    if sets::has(marks.pending, e) {
+        return false;
     }
-    0
+    if e < pends.len() {
+        return dues::LAST_TIME < pends[e];
+    }
+    false
 }
 
 // Op 63: notify event d at the due time q.
-fn notify_after(b: usize, stage: u8, d: usize, q: u64, pends: &mut [u64], waits: &[u64]) -> Obeyed
-    ensures { λ r. ⌜ did r (lists (now (pends .exit)) (now (waits .entry)) [] []) [] ≡ inTime b stage (lists (now (pends .entry)) (now (waits .entry)) [] []) [] (dueBy (ltb lastTime (getD (now (pends .entry)) d 0)) q (lists (now (pends .entry)) (now (waits .entry)) [] []) [] (lists (changed (earlierCode q) d (now (pends .entry))) (now (waits .entry)) [] [])) ⌝ }
+fn notify_after(
+    b: usize,
+    stage: u8,
+    d: usize,
+    q: u64,
+    marks: Marks,
+    pends: &mut [u64],
+    waits: &[u64],
+) -> Done
+    ensures { λ r. ⌜ did (r .came) (kept (r .marks) (lists (now (pends .exit)) (now (waits .entry)) [])) [] ≡ inTime b stage (kept marks (lists (now (pends .entry)) (now (waits .entry)) [])) [] (dueBy (addsTime d (kept marks (lists (now (pends .entry)) (now (waits .entry)) []))) q (kept marks (lists (now (pends .entry)) (now (waits .entry)) [])) [] (did Obeyed.Goes (askedIn q d (kept marks (lists (now (pends .entry)) (now (waits .entry)) []))) [])) ⌝ }
 {
     if is_past(b, stage) {
-        return Obeyed::Stops(18);
+        return done(Obeyed::Stops(18), marks);
     }
-    if phases::LAST_TIME < q {
-        return Obeyed::Stops(17);
+    if dues::LAST_TIME < q {
+        return done(Obeyed::Stops(17), marks);
     }
-    let old = pend_at(pends, d);
-    if is_full(phases::LAST_TIME < old, q, pends, waits) {
-        return Obeyed::Stops(23);
+    if is_full(adds_time(marks, pends, d), q, pends, waits) {
+        return done(Obeyed::Stops(23), marks);
     }
-    phases::notify_after(pends, d, q);
-    Obeyed::Goes
+    done(Obeyed::Goes, phases::notify_after(marks, pends, d, q))
 }
 
 // Op 64: request update d.
-fn request(b: usize, stage: u8, d: usize, requests: &mut [u8]) -> Obeyed
-    ensures { λ r. ⌜ did r (lists [] [] [] (now (requests .exit))) [] ≡ inTime b stage (lists [] [] [] (now (requests .entry))) [] (did Obeyed.Goes (lists [] [] [] (set (now (requests .entry)) d 1)) []) ⌝ }
+fn request(b: usize, stage: u8, d: usize, marks: Marks) -> Done
+    ensures { λ r. ⌜ did (r .came) (kept (r .marks) (lists [] [] [])) [] ≡ inTime b stage (kept marks (lists [] [] [])) [] (did Obeyed.Goes (marked (requestedBy d) (kept marks (lists [] [] []))) []) ⌝ }
 {
     if is_past(b, stage) {
-        return Obeyed::Stops(18);
+        return done(Obeyed::Stops(18), marks);
     }
-    phases::request(requests, d);
-    Obeyed::Goes
+    done(Obeyed::Goes, marks::request(marks, d))
 }
 
 // Op 65: suspend thread d.
-fn suspend(b: usize, stage: u8, d: usize, modes: &mut [u8]) -> Obeyed
-    ensures { λ r. ⌜ did r (lists [] [] (now (modes .exit)) []) [] ≡ inTime b stage (lists [] [] (now (modes .entry)) []) [] (did Obeyed.Goes (lists [] [] (changed suspendCode d (now (modes .entry))) []) []) ⌝ }
+fn suspend(b: usize, stage: u8, d: usize, marks: Marks) -> Done
+    ensures { λ r. ⌜ did (r .came) (kept (r .marks) (lists [] [] [])) [] ≡ inTime b stage (kept marks (lists [] [] [])) [] (did Obeyed.Goes (marked (suspended d) (kept marks (lists [] [] []))) []) ⌝ }
 {
     if is_past(b, stage) {
-        return Obeyed::Stops(18);
+        return done(Obeyed::Stops(18), marks);
     }
-    phases::suspend(modes, d);
-    Obeyed::Goes
+    done(Obeyed::Goes, marks::suspend(marks, d))
 }
 
 // Op 66: resume thread d.
-fn resume(b: usize, stage: u8, d: usize, modes: &mut [u8]) -> Obeyed
-    ensures { λ r. ⌜ did r (lists [] [] (now (modes .exit)) []) [] ≡ inTime b stage (lists [] [] (now (modes .entry)) []) [] (did Obeyed.Goes (lists [] [] (changed resumeCode d (now (modes .entry))) []) []) ⌝ }
+fn resume(b: usize, stage: u8, d: usize, marks: Marks) -> Done
+    ensures { λ r. ⌜ did (r .came) (kept (r .marks) (lists [] [] [])) [] ≡ inTime b stage (kept marks (lists [] [] [])) [] (did Obeyed.Goes (marked (resumed d) (kept marks (lists [] [] []))) []) ⌝ }
 {
     if is_past(b, stage) {
-        return Obeyed::Stops(18);
+        return done(Obeyed::Stops(18), marks);
     }
-    phases::resume(modes, d);
-    Obeyed::Goes
+    done(Obeyed::Goes, marks::resume(marks, d))
 }
 
 // Ops 67 and 68: start, once.
-fn begin(stage: u8, limit: u64) -> Obeyed
-    ensures { λ r. ⌜ did r (lists [] [] [] []) [] ≡ startsBy stage limit (lists [] [] [] []) [] ⌝ }
+fn begin(stage: u8, limit: u64, marks: Marks) -> Done
+    ensures { λ r. ⌜ did (r .came) (kept (r .marks) (lists [] [] [])) [] ≡ startsBy stage limit (kept marks (lists [] [] [])) [] ⌝ }
 {
     if stage == 0 {
-        return Obeyed::Begins(limit);
+        return done(Obeyed::Begins(limit), marks);
     }
-    Obeyed::Stops(18)
-}
-
-// Op 60: wait for event d.
-fn wait_event(b: usize, d: usize, waits: &mut [u64]) -> Obeyed
-    requires { ⌜ d < 256 ⌝ }
-    ensures { λ r. ⌜ did r (lists [] (now (waits .exit)) [] []) [] ≡ did Obeyed.Goes (lists [] (waitsIn (length (now (waits .entry))) b (firstEvent + d) (now (waits .entry))) [] []) [] ⌝ }
-{
-    wait_for(b, phases::FIRST_EVENT + d as u64, waits);
-    Obeyed::Goes
+    done(Obeyed::Stops(18), marks)
 }
 
 // An instruction of body b that is not plain: the one decision over the other op numbers.
@@ -430,51 +449,60 @@ fn obey(
     f: Frame,
     b: usize,
     n: Now,
+    threads: usize,
     inputs: &[u32],
     pends: &mut [u64],
     waits: &mut [u64],
-    modes: &mut [u8],
-    requests: &mut [u8],
+    waiters: &mut [u32],
     cells: &mut [u32],
-) -> Obeyed
-    ensures { λ r. ⌜ did r (lists (now (pends .exit)) (now (waits .exit)) (now (modes .exit)) (now (requests .exit))) (now (cells .exit)) ≡ obeyed (length (now (waits .entry))) b f n (now (inputs .entry)) (lists (now (pends .entry)) (now (waits .entry)) (now (modes .entry)) (now (requests .entry))) (now (cells .entry)) (meaningOf (f .op)) ⌝ }
+) -> Done
+    ensures { λ r. ⌜ did (r .came) (kept (r .marks) (lists (now (pends .exit)) (now (waits .exit)) (now (waiters .exit)))) (now (cells .exit)) ≡ obeyed threads b f n (now (inputs .entry)) (kept (n .marks) (lists (now (pends .entry)) (now (waits .entry)) (now (waiters .entry)))) (now (cells .entry)) (meaningOf (f .op)) ⌝ }
 {
     let op = f.op;
     let d = f.d as usize;
     let a = f.a as usize;
+    let m = n.marks;
     match op {
-        0x03 => take_input(d, n.taken, inputs, cells),
-        0x60 => wait_event(b, d, waits),
-        0x61 => wait_time(b, phases::ask(n.time, cell_at(cells, a)), pends, waits),
-        0x62 => notify(b, n.stage, d, pends, waits),
+        0x03 => take_input(d, n.taken, m, inputs, cells),
+        0x60 => wait_event(b, d, threads, m, waiters),
+        0x61 => wait_time(
+            b,
+            dues::ask(n.time, cell_at(cells, a)),
+            threads,
+            m,
+            pends,
+            waits,
+        ),
+        0x62 => notify(b, n.stage, d, m, pends, waiters),
         0x63 => notify_after(
             b,
             n.stage,
             d,
-            phases::ask(n.time, cell_at(cells, a)),
+            dues::ask(n.time, cell_at(cells, a)),
+            m,
             pends,
             waits,
         ),
-        0x64 => request(b, n.stage, d, requests),
-        0x65 => suspend(b, n.stage, d, modes),
-        0x66 => resume(b, n.stage, d, modes),
-        0x67 => begin(n.stage, f.imm as u64),
-        0x68 => begin(n.stage, 4294967296),
-        _ => Obeyed::Stops(4),
+        0x64 => request(b, n.stage, d, m),
+        0x65 => suspend(b, n.stage, d, m),
+        0x66 => resume(b, n.stage, d, m),
+        0x67 => begin(n.stage, f.imm as u64, m),
+        0x68 => begin(n.stage, 4294967296, m),
+        _ => done(Obeyed::Stops(4), m),
     }
 }
 
-// Where body b stands after what it asked of the kernel: a thread that waits or is suspended gives control back.
-fn stay(b: usize, waits: &[u64], modes: &[u8]) -> Control
-    ensures { λ r. ⌜ r ≡ staysAt (length (now (waits .entry))) b (now (waits .entry)) (now (modes .entry)) ⌝ }
+// Where body b stands after what it asked of the kernel, where it did not wait: a thread that is suspended gives control back.
+fn stay(b: usize, threads: usize, marks: Marks) -> Control
+    ensures { λ r. ⌜ r ≡ staysAt threads b marks ⌝ }
 {
     if b == 0 {
         return Control::Runs(b);
     }
-    if waits.len() < b {
+    if threads < b {
         return Control::Runs(b);
     }
-    if phases::runnable(waits, modes, b - 1) {
+    if marks::runnable(marks, b - 1) {
         return Control::Runs(b);
     }
     Control::Evaluation
@@ -490,8 +518,8 @@ fn one_less(left: u32) -> u32
 }
 
 // An instruction of body b is completed: one less is left of the budget.
-fn counted(n: Now, c: Control) -> Now
-    ensures { λ r. ⌜ r ≡ withLeft (n .left - 1) (goesTo c n) ⌝ }
+fn counted(n: Now, c: Control, marks: Marks) -> Now
+    ensures { λ r. ⌜ r ≡ withLeft (n .left - 1) (marksTo c marks n) ⌝ }
 {
     Now {
         control: c,
@@ -501,6 +529,7 @@ fn counted(n: Now, c: Control) -> Now
         left: one_less(n.left),
         chosen: n.chosen,
         taken: n.taken,
+        marks: marks,
     }
 }
 
@@ -516,8 +545,9 @@ fn next_input(count: usize, taken: usize) -> usize
 
 // And it took one of the inputs.
 fn counted_input(n: Now, b: usize, count: usize) -> Now
-    ensures { λ r. ⌜ r ≡ record { control = Control.Runs b; time = n .time; limit = n .limit; stage = n .stage; left = n .left - 1; chosen = n .chosen; taken = nextInput count (n .taken) } ⌝ }
+    ensures { λ r. ⌜ r ≡ record { control = Control.Runs b; time = n .time; limit = n .limit; stage = n .stage; left = n .left - 1; chosen = n .chosen; taken = nextInput count (n .taken); marks = n .marks } ⌝ }
 {
+    let marks = n.marks;
     Now {
         control: Control::Runs(b),
         time: n.time,
@@ -526,13 +556,15 @@ fn counted_input(n: Now, b: usize, count: usize) -> Now
         left: one_less(n.left),
         chosen: n.chosen,
         taken: next_input(count, n.taken),
+        marks: marks,
     }
 }
 
 // And it began the phase.
 fn counted_start(n: Now, limit: u64) -> Now
-    ensures { λ r. ⌜ r ≡ record { control = Control.UpdatePhase; time = n .time; limit = limit; stage = 1; left = n .left - 1; chosen = n .chosen; taken = n .taken } ⌝ }
+    ensures { λ r. ⌜ r ≡ record { control = Control.UpdatePhase; time = n .time; limit = limit; stage = 1; left = n .left - 1; chosen = n .chosen; taken = n .taken; marks = n .marks } ⌝ }
 {
+    let marks = n.marks;
     Now {
         control: Control::UpdatePhase,
         time: n.time,
@@ -541,6 +573,7 @@ fn counted_start(n: Now, limit: u64) -> Now
         left: one_less(n.left),
         chosen: n.chosen,
         taken: n.taken,
+        marks: marks,
     }
 }
 
@@ -560,24 +593,29 @@ fn is_over(c: Control) -> bool
 
 // An instruction at place p of body b is completed, or stops the run.
 fn complete(
-    o: Obeyed,
+    o: Done,
     n: Now,
     count: usize,
     b: usize,
     p: usize,
-    waits: &[u64],
-    modes: &[u8],
+    threads: usize,
     places: &mut [usize],
 ) -> Now
     requires { ⌜ p < 1024 ⌝ }
-    ensures { λ r. ⌜ r ≡ completedTo (length (now (waits .entry))) count b p o n (lists [] (now (waits .entry)) (now (modes .entry)) []) ⌝ }
-    ensures { λ r. ⌜ now (places .exit) ≡ completedAt b p o (now (places .entry)) ⌝ }
+    ensures { λ r. ⌜ r ≡ completedTo threads count b p (o .came) (o .marks) n ⌝ }
+    ensures { λ r. ⌜ now (places .exit) ≡ completedAt b p (o .came) (now (places .entry)) ⌝ }
 {
-    match o {
+    let came = o.came;
+    let marks = o.marks;
+    match came {
         Obeyed::Stops(k) => to(n, Control::Over(k, b, p)),
         Obeyed::Goes => {
             put_place(places, b, p + 1);
-            counted(n, stay(b, waits, modes))
+            counted(n, stay(b, threads, marks), marks)
+        }
+        Obeyed::Waits => {
+            put_place(places, b, p + 1);
+            counted(n, Control::Evaluation, marks)
         }
         Obeyed::Took => {
             put_place(places, b, p + 1);
@@ -624,22 +662,22 @@ fn obey_at(
     table: &[u64],
     line: usize,
     inputs: &[u32],
+    threads: usize,
     b: usize,
     p: usize,
     n: Now,
     pends: &mut [u64],
     waits: &mut [u64],
-    modes: &mut [u8],
-    requests: &mut [u8],
+    waiters: &mut [u32],
     places: &mut [usize],
     cells: &mut [u32],
 ) -> Now
     requires { ⌜ (line < length (now table)) × (p < 1024) ⌝ }
-    ensures { λ r. ⌜ code r (lists (now (pends .exit)) (now (waits .exit)) (now (modes .exit)) (now (requests .exit))) (now (places .exit)) (now (cells .exit)) ≡ completed (length (now (waits .entry))) (length (now (inputs .entry))) b p (obeyed (length (now (waits .entry))) b (fields (getD (now (table .entry)) line 0)) n (now (inputs .entry)) (lists (now (pends .entry)) (now (waits .entry)) (now (modes .entry)) (now (requests .entry))) (now (cells .entry)) (meaningOf (fields (getD (now (table .entry)) line 0) .op))) n (now (places .entry)) ⌝ }
+    ensures { λ r. ⌜ code r (lists (now (pends .exit)) (now (waits .exit)) (now (waiters .exit))) (now (places .exit)) (now (cells .exit)) ≡ completed threads (length (now (inputs .entry))) b p (obeyed threads b (fields (getD (now (table .entry)) line 0)) n (now (inputs .entry)) (kept (n .marks) (lists (now (pends .entry)) (now (waits .entry)) (now (waiters .entry)))) (now (cells .entry)) (meaningOf (fields (getD (now (table .entry)) line 0) .op))) n (now (places .entry)) ⌝ }
 {
     let f = frame::decode(table[line]);
-    let o = obey(f, b, n, inputs, pends, waits, modes, requests, cells);
-    complete(o, n, inputs.len(), b, p, waits, modes, places)
+    let o = obey(f, b, n, threads, inputs, pends, waits, waiters, cells);
+    complete(o, n, inputs.len(), b, p, threads, places)
 }
 
 // The machine with this much left of the budget.
@@ -647,6 +685,7 @@ fn with_left(n: Now, left: u32) -> Now
     ensures { λ r. ⌜ r ≡ withLeft left n ⌝ }
 {
     let c = n.control;
+    let marks = n.marks;
     Now {
         control: c,
         time: n.time,
@@ -655,6 +694,7 @@ fn with_left(n: Now, left: u32) -> Now
         left: left,
         chosen: n.chosen,
         taken: n.taken,
+        marks: marks,
     }
 }
 
@@ -664,34 +704,34 @@ fn after_plain(
     table: &[u64],
     base: usize,
     inputs: &[u32],
+    threads: usize,
     b: usize,
     n: Now,
     pends: &mut [u64],
     waits: &mut [u64],
-    modes: &mut [u8],
-    requests: &mut [u8],
+    waiters: &mut [u32],
     places: &mut [usize],
     cells: &mut [u32],
 ) -> Now
     requires { ⌜ (ran .end ≡ End.Left → Inside (now table) base 0 (ran .place)) ⌝ }
-    ensures { λ r. ⌜ code r (lists (now (pends .exit)) (now (waits .exit)) (now (modes .exit)) (now (requests .exit))) (now (places .exit)) (now (cells .exit)) ≡ ranTo (now (table .entry)) (now (inputs .entry)) base b (ran .end) (ran .place) n (lists (now (pends .entry)) (now (waits .entry)) (now (modes .entry)) (now (requests .entry))) (now (places .entry)) (now (cells .entry)) ⌝ }
+    ensures { λ r. ⌜ code r (lists (now (pends .exit)) (now (waits .exit)) (now (waiters .exit))) (now (places .exit)) (now (cells .exit)) ≡ ranTo (now (table .entry)) (now (inputs .entry)) threads base b (ran .end) (ran .place) n (lists (now (pends .entry)) (now (waits .entry)) (now (waiters .entry))) (now (places .entry)) (now (cells .entry)) ⌝ }
 {
     let p = ran.place;
     let end = ran.end;
     match end {
-        End::Ended => end_body(n, b, waits.len(), modes, requests),
+        End::Ended => end_body(n, b, threads),
         End::Stopped(k) => to(n, Control::Over(k, b, p)),
         End::Left => obey_at(
             table,
             base + p,
             inputs,
+            threads,
             b,
             p,
             n,
             pends,
             waits,
-            modes,
-            requests,
+            waiters,
             places,
             cells,
         ),
@@ -721,16 +761,16 @@ fn run_body(
     table: &[u64],
     inputs: &[u32],
     firsts: &[usize],
+    threads: usize,
     b: usize,
     n: Now,
     pends: &mut [u64],
     waits: &mut [u64],
-    modes: &mut [u8],
-    requests: &mut [u8],
+    waiters: &mut [u32],
     places: &mut [usize],
     cells: &mut [u32],
 ) -> Now
-    ensures { λ r. ⌜ code r (lists (now (pends .exit)) (now (waits .exit)) (now (modes .exit)) (now (requests .exit))) (now (places .exit)) (now (cells .exit)) ≡ bodyRun (now (table .entry)) (now (inputs .entry)) (now (firsts .entry)) b (code n (lists (now (pends .entry)) (now (waits .entry)) (now (modes .entry)) (now (requests .entry))) (now (places .entry)) (now (cells .entry))) ⌝ }
+    ensures { λ r. ⌜ code r (lists (now (pends .exit)) (now (waits .exit)) (now (waiters .exit))) (now (places .exit)) (now (cells .exit)) ≡ bodyRun (now (table .entry)) (now (inputs .entry)) (now (firsts .entry)) threads b (code n (lists (now (pends .entry)) (now (waits .entry)) (now (waiters .entry))) (now (places .entry)) (now (cells .entry))) ⌝ }
 {
     let base = first_at(firsts, b);
     let ran = run_from_place(table, base, firsts, b, n.left, places, cells);
@@ -740,55 +780,73 @@ fn run_body(
         table,
         base,
         inputs,
+        threads,
         b,
         m,
         pends,
         waits,
-        modes,
-        requests,
+        waiters,
         places,
         cells,
     )
 }
 
-// One turn of the machine.
+// Evaluation, where the machine stands there or at the turn to it. After this it stands at neither.
+fn settle(choices: &[u8], n: Now) -> Now
+    ensures { λ r. ⌜ r ≡ settled (now (choices .entry)) n ⌝ }
+{
+    let c = n.control;
+    let marks = n.marks;
+    match c {
+        Control::Turn => evaluate(choices, n, Control::TimePhase),
+        Control::Evaluation => evaluate(choices, n, after_evaluation(marks)),
+        Control::Runs(_) => n,
+        Control::UpdatePhase => n,
+        Control::DeltaPhase => n,
+        Control::TimePhase => n,
+        Control::Over(_, _, _) => n,
+    }
+}
+
+// One turn of the machine: evaluation first, so that a thread that waits and the next dispatch take one turn.
 fn turn_once(
     table: &[u64],
     choices: &[u8],
     inputs: &[u32],
     firsts: &[usize],
+    threads: usize,
     n: Now,
     pends: &mut [u64],
     waits: &mut [u64],
-    modes: &mut [u8],
-    requests: &mut [u8],
+    waiters: &mut [u32],
     places: &mut [usize],
     cells: &mut [u32],
 ) -> Now
-    requires { ⌜ (length (now waits) ≤ 16) × (length (now requests) ≤ 16) ⌝ }
-    ensures { λ r. ⌜ code r (lists (now (pends .exit)) (now (waits .exit)) (now (modes .exit)) (now (requests .exit))) (now (places .exit)) (now (cells .exit)) ≡ turn (now (table .entry)) (now (choices .entry)) (now (inputs .entry)) (now (firsts .entry)) (code n (lists (now (pends .entry)) (now (waits .entry)) (now (modes .entry)) (now (requests .entry))) (now (places .entry)) (now (cells .entry))) ⌝ }
+    requires { ⌜ threads ≤ 16 ⌝ }
+    ensures { λ r. ⌜ code r (lists (now (pends .exit)) (now (waits .exit)) (now (waiters .exit))) (now (places .exit)) (now (cells .exit)) ≡ turn (now (table .entry)) (now (choices .entry)) (now (inputs .entry)) (now (firsts .entry)) threads (code n (lists (now (pends .entry)) (now (waits .entry)) (now (waiters .entry))) (now (places .entry)) (now (cells .entry))) ⌝ }
 {
-    let c = n.control;
+    let m = settle(choices, n);
+    let c = m.control;
     match c {
         Control::Runs(b) => run_body(
             table,
             inputs,
             firsts,
+            threads,
             b,
-            n,
+            m,
             pends,
             waits,
-            modes,
-            requests,
+            waiters,
             places,
             cells,
         ),
-        Control::UpdatePhase => update_phase(n, waits.len(), requests, places),
-        Control::DeltaPhase => delta_phase(n, pends, waits, modes),
-        Control::Turn => evaluate(choices, n, Control::TimePhase, waits, modes),
-        Control::Evaluation => evaluate(choices, n, after_evaluation(requests), waits, modes),
-        Control::TimePhase => time_phase(n, pends, waits),
-        Control::Over(_, _, _) => n,
+        Control::UpdatePhase => update_phase(m, threads, places),
+        Control::DeltaPhase => delta_phase(m, waiters),
+        Control::TimePhase => time_phase(m, pends, waits, waiters),
+        Control::Turn => m,
+        Control::Evaluation => m,
+        Control::Over(_, _, _) => m,
     }
 }
 
@@ -798,17 +856,17 @@ fn machine(
     choices: &[u8],
     inputs: &[u32],
     firsts: &[usize],
+    threads: usize,
     start: Now,
     bound: u64,
     pends: &mut [u64],
     waits: &mut [u64],
-    modes: &mut [u8],
-    requests: &mut [u8],
+    waiters: &mut [u32],
     places: &mut [usize],
     cells: &mut [u32],
 ) -> Now
-    requires { ⌜ (length (now waits) ≤ 16) × (length (now requests) ≤ 16) ⌝ }
-    ensures { λ r. ⌜ code r (lists (now (pends .exit)) (now (waits .exit)) (now (modes .exit)) (now (requests .exit))) (now (places .exit)) (now (cells .exit)) ≡ turns (now (table .entry)) (now (choices .entry)) (now (inputs .entry)) (now (firsts .entry)) bound (code start (lists (now (pends .entry)) (now (waits .entry)) (now (modes .entry)) (now (requests .entry))) (now (places .entry)) (now (cells .entry))) ⌝ }
+    requires { ⌜ threads ≤ 16 ⌝ }
+    ensures { λ r. ⌜ code r (lists (now (pends .exit)) (now (waits .exit)) (now (waiters .exit))) (now (places .exit)) (now (cells .exit)) ≡ turns (now (table .entry)) (now (choices .entry)) (now (inputs .entry)) (now (firsts .entry)) threads bound (code start (lists (now (pends .entry)) (now (waits .entry)) (now (waiters .entry))) (now (places .entry)) (now (cells .entry))) ⌝ }
 {
     let mut n = start;
     let mut more = bound;
@@ -822,11 +880,11 @@ fn machine(
             choices,
             inputs,
             firsts,
+            threads,
             n,
             pends,
             waits,
-            modes,
-            requests,
+            waiters,
             places,
             cells,
         );
@@ -863,9 +921,10 @@ fn zero_cells(cells: &mut [u32], n: usize)
     }
 }
 
-fn first_now(budget: u32) -> Now
-    ensures { λ r. ⌜ r ≡ firstNow budget ⌝ }
+fn first_now(threads: usize, budget: u32) -> Now
+    ensures { λ r. ⌜ r ≡ firstNow threads budget ⌝ }
 {
+    let marks = marks::first_marks(threads);
     Now {
         control: Control::Runs(0),
         time: 0,
@@ -874,6 +933,7 @@ fn first_now(budget: u32) -> Now
         left: budget,
         chosen: 0,
         taken: 0,
+        marks: marks,
     }
 }
 
@@ -900,9 +960,10 @@ pub struct Answer {
     pub threads: u32,
 }
 
-fn answer_as(n: Now, budget: u32, modes: &[u8], k: u8, b: usize, p: usize) -> Answer
-    ensures { λ r. ⌜ said r ≡ answerAs budget n (now (modes .entry)) k b p ⌝ }
+fn answer_as(n: Now, budget: u32, k: u8, b: usize, p: usize) -> Answer
+    ensures { λ r. ⌜ said r ≡ answerAs budget n k b p ⌝ }
 {
+    let marks = n.marks;
     Answer {
         number: k as u32,
         body: (b % 0x1_0000_0000) as u32,
@@ -911,22 +972,22 @@ fn answer_as(n: Now, budget: u32, modes: &[u8], k: u8, b: usize, p: usize) -> An
         instructions: spent(budget, n.left),
         choices: (n.chosen % 0x1_0000_0000) as u32,
         inputs: (n.taken % 0x1_0000_0000) as u32,
-        threads: phases::not_ended(modes),
+        threads: marks::not_ended(marks),
     }
 }
 
-fn answer_of(n: Now, budget: u32, modes: &[u8]) -> Answer
-    ensures { λ r. ⌜ said r ≡ answered budget n (now (modes .entry)) ⌝ }
+fn answer_of(n: Now, budget: u32) -> Answer
+    ensures { λ r. ⌜ said r ≡ answered budget n ⌝ }
 {
     let c = n.control;
     match c {
-        Control::Over(k, b, p) => answer_as(n, budget, modes, k, b, p),
-        Control::Runs(_) => answer_as(n, budget, modes, 0, 0, 0),
-        Control::UpdatePhase => answer_as(n, budget, modes, 0, 0, 0),
-        Control::DeltaPhase => answer_as(n, budget, modes, 0, 0, 0),
-        Control::Turn => answer_as(n, budget, modes, 0, 0, 0),
-        Control::Evaluation => answer_as(n, budget, modes, 0, 0, 0),
-        Control::TimePhase => answer_as(n, budget, modes, 0, 0, 0),
+        Control::Over(k, b, p) => answer_as(n, budget, k, b, p),
+        Control::Runs(_) => answer_as(n, budget, 0, 0, 0),
+        Control::UpdatePhase => answer_as(n, budget, 0, 0, 0),
+        Control::DeltaPhase => answer_as(n, budget, 0, 0, 0),
+        Control::Turn => answer_as(n, budget, 0, 0, 0),
+        Control::Evaluation => answer_as(n, budget, 0, 0, 0),
+        Control::TimePhase => answer_as(n, budget, 0, 0, 0),
     }
 }
 
@@ -943,17 +1004,18 @@ fn bound_of(budget: u32, choices: usize) -> u64
 fn start(
     table: &[u64],
     firsts: &[usize],
+    threads: usize,
     budget: u32,
     places: &mut [usize],
     cells: &mut [u32],
 ) -> Now
-    ensures { λ r. ⌜ (r ≡ firstNow (firstRan (now (table .entry)) (now (firsts .entry)) budget (now (cells .entry)) .ran .left)) × (now (places .exit) ≡ set (now (places .entry)) 0 (firstRan (now (table .entry)) (now (firsts .entry)) budget (now (cells .entry)) .ran .place)) × (now (cells .exit) ≡ firstRan (now (table .entry)) (now (firsts .entry)) budget (now (cells .entry)) .cells) ⌝ }
+    ensures { λ r. ⌜ (r ≡ firstNow threads (firstRan (now (table .entry)) (now (firsts .entry)) budget (now (cells .entry)) .ran .left)) × (now (places .exit) ≡ set (now (places .entry)) 0 (firstRan (now (table .entry)) (now (firsts .entry)) budget (now (cells .entry)) .ran .place)) × (now (cells .exit) ≡ firstRan (now (table .entry)) (now (firsts .entry)) budget (now (cells .entry)) .cells) ⌝ }
 {
     let base = first_at(firsts, 0);
     let len = distance(base, first_after(firsts, 0));
     let ran = plain::run_plain(table, base, len, 0, budget, cells);
     put_place(places, 0, ran.place);
-    first_now(ran.left)
+    first_now(threads, ran.left)
 }
 
 // The run from its first state on.
@@ -962,34 +1024,34 @@ fn run_from(
     choices: &[u8],
     inputs: &[u32],
     firsts: &[usize],
+    threads: usize,
     budget: u32,
     pends: &mut [u64],
     waits: &mut [u64],
-    modes: &mut [u8],
-    requests: &mut [u8],
+    waiters: &mut [u32],
     places: &mut [usize],
     cells: &mut [u32],
 ) -> Answer
-    requires { ⌜ (length (now choices) ≤ 4096) × (length (now waits) ≤ 16) × (length (now requests) ≤ 16) ⌝ }
-    ensures { λ r. ⌜ record { answer = said r; cells = now (cells .exit) } ≡ told budget (turns (now (table .entry)) (now (choices .entry)) (now (inputs .entry)) (now (firsts .entry)) (8 * (budget + length (now (choices .entry))) + 1) (started (now (table .entry)) (now (firsts .entry)) budget (lists (now (pends .entry)) (now (waits .entry)) (now (modes .entry)) (now (requests .entry))) (now (places .entry)) (now (cells .entry)))) ⌝ }
+    requires { ⌜ (length (now choices) ≤ 4096) × (threads ≤ 16) ⌝ }
+    ensures { λ r. ⌜ record { answer = said r; cells = now (cells .exit) } ≡ told budget (turns (now (table .entry)) (now (choices .entry)) (now (inputs .entry)) (now (firsts .entry)) threads (8 * (budget + length (now (choices .entry))) + 1) (started (now (table .entry)) (now (firsts .entry)) threads budget (lists (now (pends .entry)) (now (waits .entry)) (now (waiters .entry))) (now (places .entry)) (now (cells .entry)))) ⌝ }
 {
     let bound = bound_of(budget, choices.len());
-    let begun = start(table, firsts, budget, places, cells);
+    let begun = start(table, firsts, threads, budget, places, cells);
     let n = machine(
         table,
         choices,
         inputs,
         firsts,
+        threads,
         begun,
         bound,
         pends,
         waits,
-        modes,
-        requests,
+        waiters,
         places,
         cells,
     );
-    answer_of(n, budget, modes)
+    answer_of(n, budget)
 }
 
 // The run on a design of so many threads, events and updates, the lines of whose bodies are known and whose cells hold 0.
@@ -1005,24 +1067,23 @@ fn run_laid(
     cells: &mut [u32],
 ) -> Answer
     requires { ⌜ (length (now choices) ≤ 4096) × (threads ≤ 16) × (events ≤ 32) × (updates ≤ 16) ⌝ }
-    ensures { λ r. ⌜ record { answer = said r; cells = now (cells .exit) } ≡ told budget (turns (now (table .entry)) (now (choices .entry)) (now (inputs .entry)) (now (firsts .entry)) (8 * (budget + length (now (choices .entry))) + 1) (started (now (table .entry)) (now (firsts .entry)) budget (firstLists threads events updates) (replicate (1 + threads + updates) 0) (now (cells .entry)))) ⌝ }
+    ensures { λ r. ⌜ record { answer = said r; cells = now (cells .exit) } ≡ told budget (turns (now (table .entry)) (now (choices .entry)) (now (inputs .entry)) (now (firsts .entry)) threads (8 * (budget + length (now (choices .entry))) + 1) (started (now (table .entry)) (now (firsts .entry)) threads budget (firstLists threads events) (replicate (1 + threads + updates) 0) (now (cells .entry)))) ⌝ }
 {
     let bodies = 1 + threads + updates;
     let mut pends = [0x1_0000_0001u64; Image::EVENTS as usize];
     let mut waits = [0x1_0000_0001u64; Image::THREADS as usize];
-    let mut modes = [0u8; Image::THREADS as usize];
-    let mut requests = [0u8; Image::UPDATES as usize];
+    let mut waiters = [0u32; Image::EVENTS as usize];
     let mut places = [0usize; Image::BODIES];
     run_from(
         table,
         choices,
         inputs,
         firsts,
+        threads,
         budget,
         &mut pends[..events],
         &mut waits[..threads],
-        &mut modes[..threads],
-        &mut requests[..updates],
+        &mut waiters[..events],
         &mut places[..bodies],
         cells,
     )

@@ -1,23 +1,24 @@
-use native.Mathlib.Omega.{arith}
 use borrow.Author.Needs.{needs}
-use Rattle.phases.proofs.Loops.{map-none}
+use Rattle.phases.proofs.Arms.{waiter-laws}
 use Rattle.phases.proofs.free_on.Statement.{statement}
 use Rattle.phases.proofs.free_on.Tie as tie
 
-returns : tie.Need-returns
-returns c = map-none _ 18446744073709551616 _ (λ i. c .before .slice-known .given i .fits) (omega arith)
+waiters-of-requires : tie.Need-waiters-of-requires
+waiters-of-requires c κs = search needs
 
-add-clear : tie.Need-add-clear
-add-clear c = search needs
+put-waiters-requires : tie.Need-put-waiters-requires
+put-waiters-requires c κs = search needs
 
-clear-requires : tie.Need-clear-requires
-clear-requires c κs = search needs
+minus-requires : tie.Need-minus-requires
+minus-requires c κs = search needs
 
 same-length : tie.Need-same-length
 same-length c = search needs
 
-returns-2 : tie.Need-returns-2
-returns-2 c = search needs
+returns : tie.Need-returns
+returns c = (search waiter-laws, search needs)
 
 pub free-on-spec : {M : Type 1} → statement M
-free-on-spec = tie.close (tie.spec returns add-clear clear-requires same-length returns-2)
+free-on-spec =
+    tie.close
+    (tie.spec waiters-of-requires put-waiters-requires minus-requires same-length returns)

@@ -13,10 +13,10 @@ enum-told-2 : tie.Need-enum-told-2
 enum-told-2 c = search needs
 
 returns : tie.Need-returns
-returns c = search (idle-none, idle-some, needs)
+returns c = search (idle-none, needs)
 
 returns-2 : tie.Need-returns-2
-returns-2 c = search (idle-none, idle-some, needs)
+returns-2 c = search (idle-some, needs)
 
 pub after-evaluation-spec : {M : Type 1} → statement M
 after-evaluation-spec =

@@ -19,22 +19,22 @@ enum-told-2 : tie.Need-enum-told-2
 enum-told-2 c = search needs
 
 add-obey-at : tie.Need-add-obey-at
-add-obey-at c = record { fits = search (fits-left (c .before .before .before .before .before .before .before .before .before .before .pre), needs) }
+add-obey-at c = record { fits = search (fits-left (c .before .before .before .before .before .before .before .before .before .pre), needs) }
 
 obey-at-requires : tie.Need-obey-at-requires
-obey-at-requires c κs = search (line-left (c .before .before .before .before .before .before .before .before .before .before .before .before .before .before .before .before .pre), needs)
+obey-at-requires c κs = search (line-left (c .before .before .before .before .before .before .before .before .before .before .before .before .before .before .pre), needs)
+
+returns : tie.Need-returns
+returns c = search (ran-ended, needs)
+
+returns-2 : tie.Need-returns-2
+returns-2 c = search (ran-stopped, needs)
 
 same-length : tie.Need-same-length
 same-length c = search needs
 
 same-length-2 : tie.Need-same-length-2
 same-length-2 c = search needs
-
-returns : tie.Need-returns
-returns c = search (ran-ended, ran-stopped, ran-left, needs)
-
-returns-2 : tie.Need-returns-2
-returns-2 c = search (ran-ended, ran-stopped, ran-left, needs)
 
 same-length-3 : tie.Need-same-length-3
 same-length-3 c = search needs
@@ -45,17 +45,8 @@ same-length-4 c = search needs
 same-length-5 : tie.Need-same-length-5
 same-length-5 c = search needs
 
-same-length-6 : tie.Need-same-length-6
-same-length-6 c = search needs
-
-same-length-7 : tie.Need-same-length-7
-same-length-7 c = search needs
-
-same-length-8 : tie.Need-same-length-8
-same-length-8 c = search needs
-
 returns-3 : tie.Need-returns-3
-returns-3 c = search (ran-ended, ran-stopped, ran-left, needs)
+returns-3 c = search (ran-left, needs)
 
 pub after-plain-spec : {M : Type 1} → statement M
 after-plain-spec =
@@ -68,14 +59,11 @@ after-plain-spec =
     enum-told-2
     add-obey-at
     obey-at-requires
-    same-length
-    same-length-2
     returns
     returns-2
+    same-length
+    same-length-2
     same-length-3
     same-length-4
     same-length-5
-    same-length-6
-    same-length-7
-    same-length-8
     returns-3)

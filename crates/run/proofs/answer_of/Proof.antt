@@ -46,25 +46,25 @@ answer-as-requires-7 : tie.Need-answer-as-requires-7
 answer-as-requires-7 c κs = search needs
 
 returns : tie.Need-returns
-returns c = search (answered-over, answered-before, needs)
+returns c = search (answered-over, needs)
 
 returns-2 : tie.Need-returns-2
-returns-2 c = search (answered-over, answered-before, needs)
+returns-2 c = search (answered-before, needs)
 
 returns-3 : tie.Need-returns-3
-returns-3 c = search (answered-over, answered-before, needs)
+returns-3 c = search (answered-before, needs)
 
 returns-4 : tie.Need-returns-4
-returns-4 c = search (answered-over, answered-before, needs)
+returns-4 c = search (answered-before, needs)
 
 returns-5 : tie.Need-returns-5
-returns-5 c = search (answered-over, answered-before, needs)
+returns-5 c = search (answered-before, needs)
 
 returns-6 : tie.Need-returns-6
-returns-6 c = search (answered-over, answered-before, needs)
+returns-6 c = search (answered-before, needs)
 
 returns-7 : tie.Need-returns-7
-returns-7 c = search (answered-over, answered-before, needs)
+returns-7 c = search (answered-before, needs)
 
 pub answer-of-spec : {M : Type 1} → statement M
 answer-of-spec =

@@ -1,37 +1,19 @@
-use Rattle.run.proofs.Arms.{served-lists}
+use Rattle.run.proofs.Arms.{delta-to, delta-in}
 use borrow.Author.Needs.{needs}
 use Rattle.run.proofs.delta_phase.Statement.{statement}
 use Rattle.run.proofs.delta_phase.Tie as tie
 
-serve-requires : tie.Need-serve-requires
-serve-requires c κs = search needs
+serve-delta-requires : tie.Need-serve-delta-requires
+serve-delta-requires c κs = search needs
 
-resume-all-requires : tie.Need-resume-all-requires
-resume-all-requires c κs = search needs
-
-to-requires : tie.Need-to-requires
-to-requires c κs = search needs
+to-marks-requires : tie.Need-to-marks-requires
+to-marks-requires c κs = search needs
 
 same-length : tie.Need-same-length
 same-length c = search needs
 
-same-length-2 : tie.Need-same-length-2
-same-length-2 c = search needs
-
-same-length-3 : tie.Need-same-length-3
-same-length-3 c = search needs
-
 returns : tie.Need-returns
-returns c = (search needs, search (served-lists, needs))
+returns c = (search (delta-to, needs), search (delta-in, needs))
 
 pub delta-phase-spec : {M : Type 1} → statement M
-delta-phase-spec =
-    tie.close
-    (tie.spec
-    serve-requires
-    resume-all-requires
-    to-requires
-    same-length
-    same-length-2
-    same-length-3
-    returns)
+delta-phase-spec = tie.close (tie.spec serve-delta-requires to-marks-requires same-length returns)

@@ -1,4 +1,4 @@
-use Rattle.run.proofs.Arms.{ends-main, ends-thread, ends-update, ends-same, ends-mode, ends-request}
+use Rattle.run.proofs.Arms.{ends-main, ends-thread, ends-update}
 use borrow.Author.Needs.{needs}
 use Rattle.run.proofs.end_body.Statement.{statement}
 use Rattle.run.proofs.end_body.Tie as tie
@@ -10,7 +10,7 @@ to-requires : tie.Need-to-requires
 to-requires c κs = search needs
 
 returns : tie.Need-returns
-returns c = (search (ends-main, needs), search (ends-same, needs))
+returns c = search (ends-main, needs)
 
 sub-end : tie.Need-sub-end
 sub-end c = search needs
@@ -18,14 +18,11 @@ sub-end c = search needs
 end-requires : tie.Need-end-requires
 end-requires c κs = search needs
 
-to-requires-2 : tie.Need-to-requires-2
-to-requires-2 c κs = search needs
-
-same-length : tie.Need-same-length
-same-length c = search needs
+to-marks-requires : tie.Need-to-marks-requires
+to-marks-requires c κs = search needs
 
 returns-2 : tie.Need-returns-2
-returns-2 c = (search (ends-thread, needs), search (ends-mode, needs))
+returns-2 c = search (ends-thread, needs)
 
 sub-finish : tie.Need-sub-finish
 sub-finish c = search needs
@@ -36,14 +33,11 @@ sub-finish-2 c = search needs
 finish-requires : tie.Need-finish-requires
 finish-requires c κs = search needs
 
-to-requires-3 : tie.Need-to-requires-3
-to-requires-3 c κs = search needs
-
-same-length-2 : tie.Need-same-length-2
-same-length-2 c = search needs
+to-marks-requires-2 : tie.Need-to-marks-requires-2
+to-marks-requires-2 c κs = search needs
 
 returns-3 : tie.Need-returns-3
-returns-3 c = (search (ends-update, needs), search (ends-request, needs))
+returns-3 c = search (ends-update, needs)
 
 pub end-body-spec : {M : Type 1} → statement M
 end-body-spec =
@@ -54,12 +48,10 @@ end-body-spec =
     returns
     sub-end
     end-requires
-    to-requires-2
-    same-length
+    to-marks-requires
     returns-2
     sub-finish
     sub-finish-2
     finish-requires
-    to-requires-3
-    same-length-2
+    to-marks-requires-2
     returns-3)

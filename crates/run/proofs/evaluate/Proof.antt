@@ -15,14 +15,14 @@ enum-known-choice c = search needs
 named-requires : tie.Need-named-requires
 named-requires c κs = search needs
 
-add-t12 : tie.Need-add-t12
-add-t12 c = search needs
+add-t11 : tie.Need-add-t11
+add-t11 c = search needs
 
-there : (c : tie.After-named) → c .before .before .before .before .before .before .before .before .args .n .chosen < length (c .before .before .before .before .before .before .before .before .args .choices .now)
+there : (c : tie.After-named) → c .before .before .before .before .before .before .before .args .n .chosen < length (c .before .before .before .before .before .before .before .args .choices .now)
 there c = search (choice-there, needs)
 
-add-t14 : tie.Need-add-t14
-add-t14 c = record { fits = omega (arith, there c) }
+add-t13 : tie.Need-add-t13
+add-t13 c = record { fits = omega (arith, there c) }
 
 enum-known-choice-2 : tie.Need-enum-known-choice-2
 enum-known-choice-2 c = search needs
@@ -43,8 +43,8 @@ evaluate-spec =
     next-choice-requires
     enum-known-choice
     named-requires
-    add-t12
-    add-t14
+    add-t11
+    add-t13
     enum-known-choice-2
     idle-or-requires
     returns

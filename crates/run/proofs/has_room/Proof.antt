@@ -7,10 +7,10 @@ sub-result : tie.Need-sub-result
 sub-result c = search needs
 
 returns : tie.Need-returns
-returns c = search (room-many, room-left, needs)
+returns c = search (room-left, needs)
 
 returns-2 : tie.Need-returns-2
-returns-2 c = search (room-many, room-left, needs)
+returns-2 c = search (room-many, needs)
 
 pub has-room-spec : {M : Type 1} → statement M
 has-room-spec = tie.close (tie.spec sub-result returns returns-2)

@@ -10,13 +10,13 @@ to-requires : tie.Need-to-requires
 to-requires c κs = search needs
 
 returns : tie.Need-returns
-returns c = search (not-idle, is-idle, needs)
+returns c = search (not-idle, needs)
 
 to-requires-2 : tie.Need-to-requires-2
 to-requires-2 c κs = search needs
 
 returns-2 : tie.Need-returns-2
-returns-2 c = search (not-idle, is-idle, needs)
+returns-2 c = search (is-idle, needs)
 
 pub idle-or-spec : {M : Type 1} → statement M
 idle-or-spec =

@@ -23,4 +23,5 @@ returns-4 c = search (full-replaced, needs)
 
 pub is-full-spec : {M : Type 1} → statement M
 is-full-spec =
-    tie.close (tie.spec returns has-room-requires returns-2 count-times-requires returns-3 returns-4)
+    tie.close
+    (tie.spec returns has-room-requires returns-2 count-times-requires returns-3 returns-4)

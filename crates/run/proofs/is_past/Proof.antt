@@ -4,10 +4,10 @@ use Rattle.run.proofs.is_past.Statement.{statement}
 use Rattle.run.proofs.is_past.Tie as tie
 
 returns : tie.Need-returns
-returns c = search (past-main, past-other, needs)
+returns c = search (past-main, needs)
 
 returns-2 : tie.Need-returns-2
-returns-2 c = search (past-main, past-other, needs)
+returns-2 c = search (past-other, needs)
 
 pub is-past-spec : {M : Type 1} → statement M
 is-past-spec = tie.close (tie.spec returns returns-2)

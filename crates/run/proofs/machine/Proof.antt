@@ -1,6 +1,6 @@
 use Rattle.run.proofs.Arms.{machine-over, machine-turn, machine-done}
-use Rattle.run.specs.Code.{Code, code, turns}
-use Rattle.run.specs.Stands.{lists}
+use Rattle.turns.specs.Code.{code, turns}
+use Rattle.shows.specs.Shows.{lists}
 use mathlib.Core.Path.{_≡_}
 use lib.ListN.{length}
 use borrow.Author.Needs.{needs}
@@ -8,11 +8,11 @@ use Rattle.run.proofs.machine.Statement.{statement}
 use Rattle.run.proofs.machine.Tie as tie
 
 abbrev Inv-loop : tie.InvT-loop
-Inv-loop table choices inputs firsts bound pends₀ waits₀ modes₀ requests₀ places₀ cells₀ n₀ more₀ pends waits modes requests places cells n more =
-    (turns table choices inputs firsts more (code n (lists pends waits modes requests) places cells) ≡ turns table choices inputs firsts more₀ (code n₀ (lists pends₀ waits₀ modes₀ requests₀) places₀ cells₀)) × (length pends ≡ length pends₀) × (length waits ≡ length waits₀) × (length modes ≡ length modes₀) × (length requests ≡ length requests₀) × (length places ≡ length places₀) × (length cells ≡ length cells₀)
+Inv-loop table choices inputs firsts threads bound pends₀ waits₀ waiters₀ places₀ cells₀ n₀ more₀ pends waits waiters places cells n more =
+    (turns table choices inputs firsts threads more (code n (lists pends waits waiters) places cells) ≡ turns table choices inputs firsts threads more₀ (code n₀ (lists pends₀ waits₀ waiters₀) places₀ cells₀)) × (length pends ≡ length pends₀) × (length waits ≡ length waits₀) × (length waiters ≡ length waiters₀) × (length places ≡ length places₀) × (length cells ≡ length cells₀)
 
 abbrev μ-loop : tie.MeasureT-loop
-μ-loop table choices inputs firsts bound pends₀ waits₀ modes₀ requests₀ places₀ cells₀ n₀ more₀ pends waits modes requests places cells n more =
+μ-loop table choices inputs firsts threads bound pends₀ waits₀ waiters₀ places₀ cells₀ n₀ more₀ pends waits waiters places cells n more =
     more
 
 loop-holds : tie.Need-loop-holds Inv-loop μ-loop
@@ -36,9 +36,6 @@ same-length-4 c = search needs
 same-length-5 : tie.Need-same-length-5 Inv-loop μ-loop
 same-length-5 c = search needs
 
-same-length-6 : tie.Need-same-length-6 Inv-loop μ-loop
-same-length-6 c = search needs
-
 returns : tie.Need-returns Inv-loop μ-loop
 returns c = search (machine-over, needs)
 
@@ -53,7 +50,10 @@ loop-less c = search needs
 
 loop-again : tie.Need-loop-again Inv-loop μ-loop
 loop-again c =
-    (machine-turn _ _ _ _ _ _ _ (c .before .before .before .before .before .before .before .before .before .before .before .before .before .before .before .before .before .before .before .before .before .before .loop .inv .0) _ (c .before .before .before .before .before .before .before .before .before .before .before .before .before .before .before .before .before .before .before .before .before .loop-test .taken) (c .before .before .before .before .before .before .before .before .before .before .before .before .turn-once .ensures), search (c .before .before .before .before .before .before .before .before .before .before .before .before .before .before .before .before .before .before .before .before .before .before .loop .inv, c .before .before .before .before .before .before .before .before .before .before .before .before .turn-once .kept, needs), search (c .before .before .before .before .before .before .before .before .before .before .before .before .before .before .before .before .before .before .before .before .before .before .loop .inv, c .before .before .before .before .before .before .before .before .before .before .before .before .turn-once .kept, needs), search (c .before .before .before .before .before .before .before .before .before .before .before .before .before .before .before .before .before .before .before .before .before .before .loop .inv, c .before .before .before .before .before .before .before .before .before .before .before .before .turn-once .kept, needs), search (c .before .before .before .before .before .before .before .before .before .before .before .before .before .before .before .before .before .before .before .before .before .before .loop .inv, c .before .before .before .before .before .before .before .before .before .before .before .before .turn-once .kept, needs), search (c .before .before .before .before .before .before .before .before .before .before .before .before .before .before .before .before .before .before .before .before .before .before .loop .inv, c .before .before .before .before .before .before .before .before .before .before .before .before .turn-once .kept, needs), search (c .before .before .before .before .before .before .before .before .before .before .before .before .before .before .before .before .before .before .before .before .before .before .loop .inv, c .before .before .before .before .before .before .before .before .before .before .before .before .turn-once .kept, needs))
+    (machine-turn _ _ _ _ _ _ _ _ (c .before .before .before .before .before .before .before .before .before .before .before .before .before .before .before .before .before .before .before .loop .inv .0) _ (c .before .before .before .before .before .before .before .before .before .before .before .before .before .before .before .before .before .before .loop-test .taken) (c .before .before .before .before .before .before .before .before .before .before .turn-once .ensures), search (c .before .before .before .before .before .before .before .before .before .before .before .before .before .before .before .before .before .before .before .loop .inv, c .before .before .before .before .before .before .before .before .before .before .turn-once .kept, needs), search (c .before .before .before .before .before .before .before .before .before .before .before .before .before .before .before .before .before .before .before .loop .inv, c .before .before .before .before .before .before .before .before .before .before .turn-once .kept, needs), search (c .before .before .before .before .before .before .before .before .before .before .before .before .before .before .before .before .before .before .before .loop .inv, c .before .before .before .before .before .before .before .before .before .before .turn-once .kept, needs), search (c .before .before .before .before .before .before .before .before .before .before .before .before .before .before .before .before .before .before .before .loop .inv, c .before .before .before .before .before .before .before .before .before .before .turn-once .kept, needs), search (c .before .before .before .before .before .before .before .before .before .before .before .before .before .before .before .before .before .before .before .loop .inv, c .before .before .before .before .before .before .before .before .before .before .turn-once .kept, needs))
+
+same-length-6 : tie.Need-same-length-6 Inv-loop μ-loop
+same-length-6 c = search needs
 
 same-length-7 : tie.Need-same-length-7 Inv-loop μ-loop
 same-length-7 c = search needs
@@ -66,12 +66,6 @@ same-length-9 c = search needs
 
 same-length-10 : tie.Need-same-length-10 Inv-loop μ-loop
 same-length-10 c = search needs
-
-same-length-11 : tie.Need-same-length-11 Inv-loop μ-loop
-same-length-11 c = search needs
-
-same-length-12 : tie.Need-same-length-12 Inv-loop μ-loop
-same-length-12 c = search needs
 
 returns-2 : tie.Need-returns-2 Inv-loop μ-loop
 returns-2 c = search (machine-done, needs)
@@ -89,16 +83,14 @@ machine-spec =
     same-length-3
     same-length-4
     same-length-5
-    same-length-6
     returns
     turn-once-requires
     sub-more
     loop-less
     loop-again
+    same-length-6
     same-length-7
     same-length-8
     same-length-9
     same-length-10
-    same-length-11
-    same-length-12
     returns-2)

@@ -1,4 +1,4 @@
-use Rattle.run.proofs.Decides.{obey-laws, obey-other}
+use Rattle.run.proofs.Decides.{obey-input, obey-event, obey-time, obey-notify, obey-after, obey-request, obey-suspend, obey-resume, obey-limit, obey-start, obey-other}
 use borrow.Author.Needs.{needs}
 use Rattle.run.proofs.obey.Statement.{statement}
 use Rattle.run.proofs.obey.Tie as tie
@@ -54,17 +54,20 @@ begin-requires c κs = search needs
 begin-requires-2 : tie.Need-begin-requires-2
 begin-requires-2 c κs = search needs
 
+done-requires : tie.Need-done-requires
+done-requires c κs = search needs
+
 same-length : tie.Need-same-length
 same-length c = search needs
 
 returns : tie.Need-returns
-returns c = search (obey-laws, needs)
+returns c = search (obey-input, needs)
 
 same-length-2 : tie.Need-same-length-2
 same-length-2 c = search needs
 
 returns-2 : tie.Need-returns-2
-returns-2 c = search (obey-laws, needs)
+returns-2 c = search (obey-event, needs)
 
 same-length-3 : tie.Need-same-length-3
 same-length-3 c = search needs
@@ -76,7 +79,7 @@ same-length-5 : tie.Need-same-length-5
 same-length-5 c = search needs
 
 returns-3 : tie.Need-returns-3
-returns-3 c = search (obey-laws, needs)
+returns-3 c = search (obey-time, needs)
 
 same-length-6 : tie.Need-same-length-6
 same-length-6 c = search needs
@@ -85,7 +88,7 @@ same-length-7 : tie.Need-same-length-7
 same-length-7 c = search needs
 
 returns-4 : tie.Need-returns-4
-returns-4 c = search (obey-laws, needs)
+returns-4 c = search (obey-notify, needs)
 
 same-length-8 : tie.Need-same-length-8
 same-length-8 c = search needs
@@ -97,31 +100,22 @@ same-length-10 : tie.Need-same-length-10
 same-length-10 c = search needs
 
 returns-5 : tie.Need-returns-5
-returns-5 c = search (obey-laws, needs)
-
-same-length-11 : tie.Need-same-length-11
-same-length-11 c = search needs
+returns-5 c = search (obey-after, needs)
 
 returns-6 : tie.Need-returns-6
-returns-6 c = search (obey-laws, needs)
-
-same-length-12 : tie.Need-same-length-12
-same-length-12 c = search needs
+returns-6 c = search (obey-request, needs)
 
 returns-7 : tie.Need-returns-7
-returns-7 c = search (obey-laws, needs)
-
-same-length-13 : tie.Need-same-length-13
-same-length-13 c = search needs
+returns-7 c = search (obey-suspend, needs)
 
 returns-8 : tie.Need-returns-8
-returns-8 c = search (obey-laws, needs)
+returns-8 c = search (obey-resume, needs)
 
 returns-9 : tie.Need-returns-9
-returns-9 c = search (obey-laws, needs)
+returns-9 c = search (obey-limit, needs)
 
 returns-10 : tie.Need-returns-10
-returns-10 c = search (obey-laws, needs)
+returns-10 c = search (obey-start, needs)
 
 returns-11 : tie.Need-returns-11
 returns-11 c = search (obey-other, needs)
@@ -147,6 +141,7 @@ obey-spec =
     cast-begin
     begin-requires
     begin-requires-2
+    done-requires
     same-length
     returns
     same-length-2
@@ -162,11 +157,8 @@ obey-spec =
     same-length-9
     same-length-10
     returns-5
-    same-length-11
     returns-6
-    same-length-12
     returns-7
-    same-length-13
     returns-8
     returns-9
     returns-10

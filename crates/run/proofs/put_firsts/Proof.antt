@@ -1,5 +1,5 @@
 use Rattle.run.proofs.Ends.{firsts-none, firsts-more, firsts-end, first-begins, line-next, frame-there, line-fits}
-use Rattle.run.specs.Stands.{Firsts}
+use Rattle.turns.specs.Stands.{Firsts}
 use Rattle.image.specs.Layout.{first, bodies}
 use mathlib.Core.Path.{_≡_}
 use lib.ListN.{length}

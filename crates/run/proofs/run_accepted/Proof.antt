@@ -1,5 +1,6 @@
 use native.Mathlib.Omega.{arith}
-use Rattle.run.proofs.Ends.{header-there, few-counts, all-bodies, accepted-run}
+use Rattle.run.proofs.Accepted.{accepted-run}
+use Rattle.run.proofs.Ends.{header-there, few-counts, all-bodies}
 use borrow.Author.Needs.{needs}
 use Rattle.run.proofs.run_accepted.Statement.{statement}
 use Rattle.run.proofs.run_accepted.Tie as tie

@@ -1,5 +1,5 @@
 use Rattle.run.proofs.Arms.{left-there}
-use Rattle.run.specs.Code.{bodyRun}
+use Rattle.turns.specs.Code.{bodyRun}
 use borrow.Author.Needs.{needs}
 use Rattle.run.proofs.run_body.Statement.{statement}
 use Rattle.run.proofs.run_body.Tie as tie
@@ -14,7 +14,7 @@ with-left-requires : tie.Need-with-left-requires
 with-left-requires c κs = search needs
 
 after-plain-requires : tie.Need-after-plain-requires
-after-plain-requires c κs = left-there _ _ _ _ _ _ _ _ (c .before .before .before .before .before .before .before .before .before .before .before .run-from-place .ensures .0)
+after-plain-requires c κs = left-there _ _ _ _ _ _ _ _ (c .before .before .before .before .before .before .before .before .before .before .run-from-place .ensures .0)
 
 same-length : tie.Need-same-length
 same-length c = search needs
@@ -31,12 +31,9 @@ same-length-4 c = search needs
 same-length-5 : tie.Need-same-length-5
 same-length-5 c = search needs
 
-same-length-6 : tie.Need-same-length-6
-same-length-6 c = search needs
-
 returns : tie.Need-returns
 unfolding bodyRun
-returns c = rw (← c .before .before .before .before .before .before .before .before .before .before .before .before .before .before .before .before .before .before .before .before .before .before .before .before .before .before .before .first-at .ensures, ← c .before .before .before .before .before .before .before .before .before .before .before .before .before .before .before .before .before .before .before .before .before .before .before .before .run-from-place .ensures .0, ← c .before .before .before .before .before .before .before .before .before .before .before .before .before .before .before .before .before .before .before .before .before .before .before .before .run-from-place .ensures .1, ← c .before .before .before .before .before .before .before .before .before .before .before .before .before .before .before .before .before .before .before .with-left .ensures) (c .before .before .before .before .before .before .before .before .before .before .before .before .after-plain .ensures)
+returns c = rw (← c .before .before .before .before .before .before .before .before .before .before .before .before .before .before .before .before .before .before .before .before .before .before .before .before .first-at .ensures, ← c .before .before .before .before .before .before .before .before .before .before .before .before .before .before .before .before .before .before .before .before .before .run-from-place .ensures .0, ← c .before .before .before .before .before .before .before .before .before .before .before .before .before .before .before .before .before .before .before .before .before .run-from-place .ensures .1, ← c .before .before .before .before .before .before .before .before .before .before .before .before .before .before .before .before .with-left .ensures) (c .before .before .before .before .before .before .before .before .before .before .after-plain .ensures)
 
 pub run-body-spec : {M : Type 1} → statement M
 run-body-spec =
@@ -51,5 +48,4 @@ run-body-spec =
     same-length-3
     same-length-4
     same-length-5
-    same-length-6
     returns)

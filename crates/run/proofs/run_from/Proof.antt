@@ -25,16 +25,13 @@ same-length-3 : tie.Need-same-length-3
 same-length-3 c = search needs
 
 same-length-4 : tie.Need-same-length-4
-same-length-4 c = search needs
+same-length-4 c = search (c .before .before .before .before .before .before .before .before .before .before .before .before .before .before .before .before .before .before .before .before .before .start .kept, c .before .before .before .before .before .before .before .before .before .before .before .machine .kept, needs)
 
 same-length-5 : tie.Need-same-length-5
-same-length-5 c = search (c .before .before .before .before .before .before .before .before .before .before .before .before .before .before .before .before .before .before .before .before .before .before .before .before .before .start .kept, c .before .before .before .before .before .before .before .before .before .before .before .before .before .before .machine .kept, needs)
-
-same-length-6 : tie.Need-same-length-6
-same-length-6 c = search needs
+same-length-5 c = search needs
 
 returns : tie.Need-returns
-returns c = run-told _ _ _ _ _ _ _ _ _ _ _ _ (c .before .before .before .before .before .before .before .before .before .before .before .before .before .before .before .before .before .before .before .before .before .before .before .before .before .before .before .before .before .before .before .before .before .before .before .before .before .before .before .args .places .now) _ _ _ _ _ _ _ _ _ _ (c .before .before .before .before .before .before .before .before .before .before .before .before .before .before .before .before .before .before .before .before .before .before .before .before .before .start .ensures) (c .before .before .before .before .before .before .before .before .before .before .before .before .before .before .before .before .before .before .before .before .before .before .before .before .before .before .before .before .bound-of .ensures) (c .before .before .before .before .before .before .before .before .before .before .before .before .before .before .machine .ensures) (c .answer-of .ensures)
+returns c = run-told _ _ _ _ _ _ _ _ _ _ _ (c .before .before .before .before .before .before .before .before .before .before .before .before .before .before .before .before .before .before .before .before .before .before .before .before .before .before .before .before .before .before .before .before .before .before .args .places .now) _ _ _ _ _ _ (c .before .before .before .before .before .before .before .before .before .before .before .before .before .before .before .before .before .before .before .before .before .start .ensures) (c .before .before .before .before .before .before .before .before .before .before .before .before .before .before .before .before .before .before .before .before .before .before .before .before .bound-of .ensures) (c .before .before .before .before .before .before .before .before .before .before .before .machine .ensures) (c .answer-of .ensures)
 
 pub run-from-spec : {M : Type 1} → statement M
 run-from-spec =
@@ -49,5 +46,4 @@ run-from-spec =
     same-length-3
     same-length-4
     same-length-5
-    same-length-6
     returns)

@@ -28,7 +28,7 @@ same-length-2 : tie.Need-same-length-2
 same-length-2 c = search needs
 
 returns : tie.Need-returns
-returns c = first-ran-is _ (c .before .before .before .before .before .before .before .before .before .before .before .before .before .before .before .before .args .firsts .now) (c .before .before .before .before .before .before .before .before .before .before .before .before .before .before .before .before .args .places .now) _ _ _ _ _ _ _ _ _ (c .before .before .before .before .before .before .before .before .before .before .before .first-at .ensures) (c .before .before .before .before .before .before .before .before .before .before .first-after .ensures) (c .before .before .before .before .before .before .before .before .before .distance .ensures) (c .before .before .before .before .before .before .before .run-plain .ensures) (c .before .before .before .put-place .ensures) (c .first-now .ensures)
+returns c = first-ran-is _ (c .before .before .before .before .before .before .before .before .before .before .before .before .before .before .before .before .args .firsts .now) (c .before .before .before .before .before .before .before .before .before .before .before .before .before .before .before .before .args .places .now) _ _ _ _ _ _ _ _ _ _ (c .before .before .before .before .before .before .before .before .before .before .before .first-at .ensures) (c .before .before .before .before .before .before .before .before .before .before .first-after .ensures) (c .before .before .before .before .before .before .before .before .before .distance .ensures) (c .before .before .before .before .before .before .before .run-plain .ensures) (c .before .before .before .put-place .ensures) (c .first-now .ensures)
 
 pub start-spec : {M : Type 1} → statement M
 start-spec =

@@ -1,4 +1,4 @@
-use Rattle.run.proofs.Arms.{past-stops, moded}
+use Rattle.run.proofs.Arms.{past-stops, remarked}
 use borrow.Author.Needs.{needs}
 use Rattle.run.proofs.suspend.Statement.{statement}
 use Rattle.run.proofs.suspend.Tie as tie
@@ -6,17 +6,22 @@ use Rattle.run.proofs.suspend.Tie as tie
 is-past-requires : tie.Need-is-past-requires
 is-past-requires c κs = search needs
 
+done-requires : tie.Need-done-requires
+done-requires c κs = search needs
+
 returns : tie.Need-returns
-returns c = search (past-stops, moded, needs)
+returns c = search (past-stops, needs)
 
 suspend-requires : tie.Need-suspend-requires
 suspend-requires c κs = search needs
 
-same-length : tie.Need-same-length
-same-length c = search needs
+done-requires-2 : tie.Need-done-requires-2
+done-requires-2 c κs = search needs
 
 returns-2 : tie.Need-returns-2
-returns-2 c = search (past-stops, moded, needs)
+returns-2 c = search (remarked, needs)
 
 pub suspend-spec : {M : Type 1} → statement M
-suspend-spec = tie.close (tie.spec is-past-requires returns suspend-requires same-length returns-2)
+suspend-spec =
+    tie.close
+    (tie.spec is-past-requires done-requires returns suspend-requires done-requires-2 returns-2)

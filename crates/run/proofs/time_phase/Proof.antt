@@ -39,14 +39,14 @@ same-length-4 c = search needs
 returns-2 : tie.Need-returns-2
 returns-2 c = (search (timed-limit, needs), search (served-limit, needs))
 
-cast-serve : tie.Need-cast-serve
-cast-serve c = search needs
+cast-serve-time : tie.Need-cast-serve-time
+cast-serve-time c = search needs
 
-add-serve : tie.Need-add-serve
-add-serve c = search needs
+add-serve-time : tie.Need-add-serve-time
+add-serve-time c = search needs
 
-serve-requires : tie.Need-serve-requires
-serve-requires c κs = search needs
+serve-time-requires : tie.Need-serve-time-requires
+serve-time-requires c κs = search needs
 
 move-to-requires : tie.Need-move-to-requires
 move-to-requires c κs = search needs
@@ -57,8 +57,17 @@ same-length-5 c = search needs
 same-length-6 : tie.Need-same-length-6
 same-length-6 c = search needs
 
+same-length-7 : tie.Need-same-length-7
+same-length-7 c = search needs
+
 returns-3 : tie.Need-returns-3
-returns-3 c = (search (timed-on, needs), search (served-on, needs))
+returns-3 c =
+    let a = c .before .before .before .before .before .before .before .before .before .before .before .before .before .before .before .before .before .before .before .before .before .before .before .args in
+    let h = c .before .before .before .before .before .before .before .before .before .before .before .before .before .before .before .before .before .least-due .ensures in
+    let t = c .before .before .before .before .before .before .before .before .before .before .before .before .before .before .before .t .given .1 in
+    let l = c .before .before .before .before .before .before .before .before .before .before .before .before .if1 .left in
+    let e = c .before .before .before .before .before .before .before .serve-time .ensures in
+    (timed-on (a .pends .now) (a .waits .now) (a .waiters .now) (a .n) _ h _ t _ _ (e .0) (c .move-to .ensures) l, served-on (a .pends .now) (a .waits .now) (a .waiters .now) (a .n) _ h _ t _ _ _ (e .1 .0) (e .1 .1 .0) (e .1 .1 .1) l)
 
 pub time-phase-spec : {M : Type 1} → statement M
 time-phase-spec =
@@ -76,10 +85,11 @@ time-phase-spec =
     same-length-3
     same-length-4
     returns-2
-    cast-serve
-    add-serve
-    serve-requires
+    cast-serve-time
+    add-serve-time
+    serve-time-requires
     move-to-requires
     same-length-5
     same-length-6
+    same-length-7
     returns-3)

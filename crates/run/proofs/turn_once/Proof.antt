@@ -1,7 +1,10 @@
-use Rattle.run.proofs.Arms.{turn-body, turn-update, turn-delta, turn-turn, turn-evaluation, turn-time, turn-over}
+use Rattle.run.proofs.Arms.{turn-body, turn-update, turn-delta, turn-time, turn-same}
 use borrow.Author.Needs.{needs}
 use Rattle.run.proofs.turn_once.Statement.{statement}
 use Rattle.run.proofs.turn_once.Tie as tie
+
+settle-requires : tie.Need-settle-requires
+settle-requires c κs = search needs
 
 enum-known-c : tie.Need-enum-known-c
 enum-known-c c = search needs
@@ -24,23 +27,14 @@ delta-phase-requires c κs = search needs
 enum-told-3 : tie.Need-enum-told-3
 enum-told-3 c = search needs
 
-evaluate-requires : tie.Need-evaluate-requires
-evaluate-requires c κs = search needs
+time-phase-requires : tie.Need-time-phase-requires
+time-phase-requires c κs = search needs
 
 enum-told-4 : tie.Need-enum-told-4
 enum-told-4 c = search needs
 
-after-evaluation-requires : tie.Need-after-evaluation-requires
-after-evaluation-requires c κs = search needs
-
-evaluate-requires-2 : tie.Need-evaluate-requires-2
-evaluate-requires-2 c κs = search needs
-
 enum-told-5 : tie.Need-enum-told-5
 enum-told-5 c = search needs
-
-time-phase-requires : tie.Need-time-phase-requires
-time-phase-requires c κs = search needs
 
 enum-told-6 : tie.Need-enum-told-6
 enum-told-6 c = search needs
@@ -60,20 +54,23 @@ same-length-4 c = search needs
 same-length-5 : tie.Need-same-length-5
 same-length-5 c = search needs
 
+returns : tie.Need-returns
+returns c = search (turn-body, needs)
+
 same-length-6 : tie.Need-same-length-6
 same-length-6 c = search needs
 
-returns : tie.Need-returns
-returns c = search (turn-body, turn-update, turn-delta, turn-turn, turn-evaluation, turn-time, turn-over, needs)
+returns-2 : tie.Need-returns-2
+returns-2 c = search (turn-update, needs)
 
 same-length-7 : tie.Need-same-length-7
 same-length-7 c = search needs
 
+returns-3 : tie.Need-returns-3
+returns-3 c = search (turn-delta, needs)
+
 same-length-8 : tie.Need-same-length-8
 same-length-8 c = search needs
-
-returns-2 : tie.Need-returns-2
-returns-2 c = search (turn-body, turn-update, turn-delta, turn-turn, turn-evaluation, turn-time, turn-over, needs)
 
 same-length-9 : tie.Need-same-length-9
 same-length-9 c = search needs
@@ -81,49 +78,23 @@ same-length-9 c = search needs
 same-length-10 : tie.Need-same-length-10
 same-length-10 c = search needs
 
-same-length-11 : tie.Need-same-length-11
-same-length-11 c = search needs
-
-returns-3 : tie.Need-returns-3
-returns-3 c = search (turn-body, turn-update, turn-delta, turn-turn, turn-evaluation, turn-time, turn-over, needs)
-
-same-length-12 : tie.Need-same-length-12
-same-length-12 c = search needs
-
-same-length-13 : tie.Need-same-length-13
-same-length-13 c = search needs
-
 returns-4 : tie.Need-returns-4
-returns-4 c = search (turn-body, turn-update, turn-delta, turn-turn, turn-evaluation, turn-time, turn-over, needs)
-
-same-length-14 : tie.Need-same-length-14
-same-length-14 c = search needs
-
-same-length-15 : tie.Need-same-length-15
-same-length-15 c = search needs
-
-same-length-16 : tie.Need-same-length-16
-same-length-16 c = search needs
+returns-4 c = search (turn-time, needs)
 
 returns-5 : tie.Need-returns-5
-returns-5 c = search (turn-body, turn-update, turn-delta, turn-turn, turn-evaluation, turn-time, turn-over, needs)
-
-same-length-17 : tie.Need-same-length-17
-same-length-17 c = search needs
-
-same-length-18 : tie.Need-same-length-18
-same-length-18 c = search needs
+returns-5 c = search (turn-same, needs)
 
 returns-6 : tie.Need-returns-6
-returns-6 c = search (turn-body, turn-update, turn-delta, turn-turn, turn-evaluation, turn-time, turn-over, needs)
+returns-6 c = search (turn-same, needs)
 
 returns-7 : tie.Need-returns-7
-returns-7 c = search (turn-body, turn-update, turn-delta, turn-turn, turn-evaluation, turn-time, turn-over, needs)
+returns-7 c = search (turn-same, needs)
 
 pub turn-once-spec : {M : Type 1} → statement M
 turn-once-spec =
     tie.close
     (tie.spec
+    settle-requires
     enum-known-c
     run-body-requires
     enum-told
@@ -131,35 +102,24 @@ turn-once-spec =
     enum-told-2
     delta-phase-requires
     enum-told-3
-    evaluate-requires
-    enum-told-4
-    after-evaluation-requires
-    evaluate-requires-2
-    enum-told-5
     time-phase-requires
+    enum-told-4
+    enum-told-5
     enum-told-6
     same-length
     same-length-2
     same-length-3
     same-length-4
     same-length-5
-    same-length-6
     returns
-    same-length-7
-    same-length-8
+    same-length-6
     returns-2
+    same-length-7
+    returns-3
+    same-length-8
     same-length-9
     same-length-10
-    same-length-11
-    returns-3
-    same-length-12
-    same-length-13
     returns-4
-    same-length-14
-    same-length-15
-    same-length-16
     returns-5
-    same-length-17
-    same-length-18
     returns-6
     returns-7)

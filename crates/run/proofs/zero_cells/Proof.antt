@@ -1,5 +1,5 @@
 use Rattle.run.proofs.Ends.{zeroed-none, zeroed-more, zeroed-all}
-use Rattle.run.specs.Code.{zeroed}
+use Rattle.turns.specs.Code.{zeroed}
 use mathlib.Core.Path.{_≡_}
 use lib.ListN.{length}
 use Prim.Native.Nat.{_≤_, _-_}

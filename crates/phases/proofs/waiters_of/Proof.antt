@@ -1,0 +1,19 @@
+use borrow.Author.Needs.{needs}
+use Rattle.laws.specs.Lists.{stores}
+use Rattle.phases.proofs.waiters_of.Statement.{statement}
+use Rattle.phases.proofs.waiters_of.Tie as tie
+
+mul-result : tie.Need-mul-result
+mul-result c = search needs
+
+shared-slice-read-result : tie.Need-shared-slice-read-result
+shared-slice-read-result c = search needs
+
+returns : tie.Need-returns
+returns c = search needs
+
+returns-2 : tie.Need-returns-2
+returns-2 c = search (stores, needs)
+
+pub waiters-of-spec : {M : Type 1} → statement M
+waiters-of-spec = tie.close (tie.spec mul-result shared-slice-read-result returns returns-2)

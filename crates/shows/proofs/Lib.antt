@@ -1,0 +1,4 @@
+pub mod Asks
+pub mod Parts
+pub mod Happens
+pub mod Serves
