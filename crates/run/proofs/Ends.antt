@@ -1,5 +1,5 @@
 -- From its first state to its end, each law as an arm of the code has it; the lines of the bodies, and what is asked. Assumes nothing.
-use Prim.Native.Nat.{ℕ, zero, suc, _+_, _*_, _%_, _<_, _≤_}
+use Prim.Native.Nat.{ℕ, zero, suc, _+_, _-_, _*_, _%_, _<_, _≤_}
 use mathlib.Core.Path.{_≡_, refl, sym, ap, _∙_}
 use mathlib.Core.Bool.{false}
 use mathlib.Core.List.{List, [], _∷_}
@@ -17,6 +17,8 @@ use Rattle.image.proofs.Walk.{due-above, first-next, first-grows}
 use Rattle.image.proofs.Accepted.{accepted-has, few-lines, Counted, counted}
 use Rattle.kernel.specs.Machine.{Job}
 use Rattle.kernel.specs.Run.{Answer as Told, asked as askedFor, Outcome, runs}
+use Rattle.plain.specs.declared.Ran.{Ran}
+use Rattle.plain.specs.Plain.{Out, runPlain}
 use Rattle.dues.specs.Codes.{forNothing}
 use Rattle.dues.specs.Laws as P
 use Rattle.turns.specs.declared.Control.{Control}
@@ -102,6 +104,13 @@ module _ (budget : ℕ) (n : Now) (a : Told) where
       by (Over k b p) o =
           let z : _≡_ {A = ℕ} 0 1 = cc in
           absurd (omega arith)
+
+-- main's first plain instructions
+pub first-ran-is : (t fs ps qs cs ds : List ℕ) (threads budget base a len : ℕ) (r : Ran) (n : Now) → base ≡ getD fs 0 0 → a ≡ getD fs 1 0 → len ≡ a - base → record { ran = r; cells = ds } ≡ runPlain budget t base len 0 cs → qs ≡ set ps 0 (r .place) → n ≡ firstNow threads (r .left)
+    → (n ≡ firstNow threads (firstRan t fs budget cs .ran .left)) × (qs ≡ set ps 0 (firstRan t fs budget cs .ran .place)) × (ds ≡ firstRan t fs budget cs .cells)
+first-ran-is t fs ps qs cs ds threads budget base a len r n b c d e f g =
+    let o : record { ran = r; cells = ds } ≡ firstRan t fs budget cs = rw (← c, ← b, ← d) e in
+    (g ∙ ap (λ (x : Out). firstNow threads (x .ran .left)) o, f ∙ ap (λ (x : Out). set ps 0 (x .ran .place)) o, ap (λ (x : Out). x .cells) o)
 
 -- the answer of the turns, with the cells
 pub run-told : (t ch ins fs : List ℕ) (th budget k : ℕ) (start n : Now) (l l′ : Lists) (ps qs cs ds ps′ cs′ : List ℕ) (a : Told) → (start ≡ firstNow th (firstRan t fs budget cs .ran .left)) × (qs ≡ set ps 0 (firstRan t fs budget cs .ran .place)) × (ds ≡ firstRan t fs budget cs .cells) → k ≡ 8 * (budget + length ch) + 1 → code n l′ ps′ cs′ ≡ turns t ch ins fs th k (code start l qs ds) → a ≡ answered budget n

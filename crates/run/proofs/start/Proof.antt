@@ -1,4 +1,4 @@
-use Rattle.run.proofs.Arms.{first-ran-is}
+use Rattle.run.proofs.Ends.{first-ran-is}
 use borrow.Author.Needs.{needs}
 use Rattle.run.proofs.start.Statement.{statement}
 use Rattle.run.proofs.start.Tie as tie
