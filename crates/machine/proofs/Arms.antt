@@ -60,7 +60,7 @@ module _ (t : ℕ) (ps : List ℕ) (n : Now) (r : FoundCode) (h : foundOf r ≡ 
   pub enters-place : (u : ℕ) (qs : List ℕ) → r ≡ FoundAt u → qs ≡ set ps (t + 1 + u) 0 → qs ≡ entersAt t (firstAsked (n .marks)) ps
   enters-place u qs e q = rw (sym h ∙ ap foundOf e) q
 
-  pub enters-fits : (u : ℕ) → r ≡ FoundAt u → t < 256 → t + 1 + u < 2 ^ 64
+  pub enters-fits : (u : ℕ) → r ≡ FoundAt u → t < 2 ^ 63 → t + 1 + u < 2 ^ 64
   enters-fits u e a = omega (arith, asked-few (n .marks) u (sym h ∙ ap foundOf e))
 
 -- Where a body stands

@@ -8,7 +8,7 @@ use turns::Done;
 use turns::Now;
 use turns::Obeyed;
 ghost use mathlib.Core.Path.{_≡_};
-ghost use Prim.Native.Nat.{_+_, _-_, _<_};
+ghost use Prim.Native.Nat.{_+_, _-_, _<_, _^_};
 ghost use lib.ListN.{length, getD, set};
 ghost use Rattle.frame.specs.Fields.{fields};
 ghost use Rattle.frame.specs.Ops.{meaningOf};
@@ -27,14 +27,15 @@ pub fn put_place(places: &mut [usize], b: usize, p: usize)
 }
 
 // The update phase: the first requested update runs from its first instruction.
-fn update_phase(n: Now, threads: u8, places: &mut [usize]) -> Now
+fn update_phase(n: Now, threads: usize, places: &mut [usize]) -> Now
+    requires { ⌜ threads < 2 ^ 63 ⌝ }
     ensures { λ r. ⌜ (r ≡ entersTo threads (firstAsked (n .marks)) n) × (now (places .exit) ≡ entersAt threads (firstAsked (n .marks)) (now (places .entry))) ⌝ }
 {
     let marks = n.marks;
     let Found::At(u) = marks::first_requested(marks) else {
         return moves::to(n, Control::DeltaPhase);
     };
-    let b = threads as usize + 1 + u;
+    let b = threads + 1 + u;
     put_place(places, b, 0);
     moves::to(n, Control::Runs(b))
 }
@@ -344,7 +345,7 @@ fn turn_once(
     choices: &[u8],
     inputs: &[u32],
     firsts: &[usize],
-    threads: u8,
+    threads: usize,
     n: Now,
     pends: &mut [u64],
     waits: &mut [u64],
@@ -352,6 +353,7 @@ fn turn_once(
     places: &mut [usize],
     cells: &mut [u32],
 ) -> Now
+    requires { ⌜ threads < 2 ^ 63 ⌝ }
     ensures { λ r. ⌜ code r (lists (now (pends .exit)) (now (waits .exit)) (now (waiters .exit))) (now (places .exit)) (now (cells .exit)) ≡ turn (now (table .entry)) (now (choices .entry)) (now (inputs .entry)) (now (firsts .entry)) threads (code n (lists (now (pends .entry)) (now (waits .entry)) (now (waiters .entry))) (now (places .entry)) (now (cells .entry))) ⌝ }
 {
     let m = moves::settle(choices, n);
@@ -361,7 +363,7 @@ fn turn_once(
             table,
             inputs,
             firsts,
-            threads as usize,
+            threads,
             b,
             m,
             pends,
@@ -379,13 +381,12 @@ fn turn_once(
     }
 }
 
-// The machine until the run is over; `bound` turns are enough.
+// The machine until the run is over; `bound` turns are enough. There are as many threads as waits for a time.
 pub fn machine(
     table: &[u64],
     choices: &[u8],
     inputs: &[u32],
     firsts: &[usize],
-    threads: u8,
     start: Now,
     bound: u64,
     pends: &mut [u64],
@@ -394,8 +395,9 @@ pub fn machine(
     places: &mut [usize],
     cells: &mut [u32],
 ) -> Now
-    ensures { λ r. ⌜ code r (lists (now (pends .exit)) (now (waits .exit)) (now (waiters .exit))) (now (places .exit)) (now (cells .exit)) ≡ turns (now (table .entry)) (now (choices .entry)) (now (inputs .entry)) (now (firsts .entry)) threads bound (code start (lists (now (pends .entry)) (now (waits .entry)) (now (waiters .entry))) (now (places .entry)) (now (cells .entry))) ⌝ }
+    ensures { λ r. ⌜ code r (lists (now (pends .exit)) (now (waits .exit)) (now (waiters .exit))) (now (places .exit)) (now (cells .exit)) ≡ turns (now (table .entry)) (now (choices .entry)) (now (inputs .entry)) (now (firsts .entry)) (length (now (waits .entry))) bound (code start (lists (now (pends .entry)) (now (waits .entry)) (now (waiters .entry))) (now (places .entry)) (now (cells .entry))) ⌝ }
 {
+    let threads = waits.len();
     let mut n = start;
     let mut more = bound;
     while 0 < more {

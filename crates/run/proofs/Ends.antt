@@ -113,11 +113,11 @@ first-ran-is t fs ps qs cs ds threads budget base a len r n b c d e f g =
     (g ∙ ap (λ (x : Out). firstNow threads (x .ran .left)) o, f ∙ ap (λ (x : Out). set ps 0 (x .ran .place)) o, ap (λ (x : Out). x .cells) o)
 
 -- the answer of the turns, with the cells
-pub run-told : (t ch ins fs : List ℕ) (th budget k : ℕ) (start n : Now) (l l′ : Lists) (ps qs cs ds ps′ cs′ : List ℕ) (a : Told) → (start ≡ firstNow th (firstRan t fs budget cs .ran .left)) × (qs ≡ set ps 0 (firstRan t fs budget cs .ran .place)) × (ds ≡ firstRan t fs budget cs .cells) → k ≡ 8 * (budget + length ch) + 1 → code n l′ ps′ cs′ ≡ turns t ch ins fs th k (code start l qs ds) → a ≡ answered budget n
+pub run-told : (t ch ins fs : List ℕ) (th w budget k : ℕ) (start n : Now) (l l′ : Lists) (ps qs cs ds ps′ cs′ : List ℕ) (a : Told) → th ≡ w → (start ≡ firstNow th (firstRan t fs budget cs .ran .left)) × (qs ≡ set ps 0 (firstRan t fs budget cs .ran .place)) × (ds ≡ firstRan t fs budget cs .cells) → k ≡ 8 * (budget + length ch) + 1 → code n l′ ps′ cs′ ≡ turns t ch ins fs w k (code start l qs ds) → a ≡ answered budget n
     → record { answer = a; cells = cs′ } ≡ told budget (turns t ch ins fs th (8 * (budget + length ch) + 1) (started t fs th budget l ps cs))
 unfolding told
-run-told t ch ins fs th budget k start n l l′ ps qs cs ds ps′ cs′ a e q m h =
-    rw (← e .0, ← e .1, ← e .2, ← q, ← m, h)
+run-told t ch ins fs th w budget k start n l l′ ps qs cs ds ps′ cs′ a g e q m h =
+    rw (← e .0, ← e .1, ← e .2, ← q, g, ← m, h)
 
 -- The lists at first, cut from longer ones -------------------------------------------------------------------------
 

@@ -144,7 +144,7 @@ fn run_from(
     choices: &[u8],
     inputs: &[u32],
     firsts: &[usize],
-    threads: u8,
+    threads: usize,
     budget: u32,
     pends: &mut [u64],
     waits: &mut [u64],
@@ -152,17 +152,16 @@ fn run_from(
     places: &mut [usize],
     cells: &mut [u32],
 ) -> Answer
-    requires { ⌜ length (now choices) ≤ 4096 ⌝ }
+    requires { ⌜ (length (now choices) ≤ 4096) × (threads ≡ length (now waits)) ⌝ }
     ensures { λ r. ⌜ record { answer = said r; cells = now (cells .exit) } ≡ told budget (turns (now (table .entry)) (now (choices .entry)) (now (inputs .entry)) (now (firsts .entry)) threads (8 * (budget + length (now (choices .entry))) + 1) (started (now (table .entry)) (now (firsts .entry)) threads budget (lists (now (pends .entry)) (now (waits .entry)) (now (waiters .entry))) (now (places .entry)) (now (cells .entry)))) ⌝ }
 {
     let bound = bound_of(budget, choices.len());
-    let begun = start(table, firsts, threads as usize, budget, places, cells);
+    let begun = start(table, firsts, threads, budget, places, cells);
     let n = machine::machine(
         table,
         choices,
         inputs,
         firsts,
-        threads,
         begun,
         bound,
         pends,
@@ -180,7 +179,7 @@ fn run_laid(
     choices: &[u8],
     inputs: &[u32],
     firsts: &[usize],
-    threads: u8,
+    threads: usize,
     events: usize,
     updates: usize,
     budget: u32,
@@ -189,7 +188,7 @@ fn run_laid(
     requires { ⌜ (length (now choices) ≤ 4096) × (threads ≤ 16) × (events ≤ 32) × (updates ≤ 16) ⌝ }
     ensures { λ r. ⌜ record { answer = said r; cells = now (cells .exit) } ≡ told budget (turns (now (table .entry)) (now (choices .entry)) (now (inputs .entry)) (now (firsts .entry)) threads (8 * (budget + length (now (choices .entry))) + 1) (started (now (table .entry)) (now (firsts .entry)) threads budget (firstLists threads events) (replicate (1 + threads + updates) 0) (now (cells .entry)))) ⌝ }
 {
-    let bodies = 1 + threads as usize + updates;
+    let bodies = 1 + threads + updates;
     let mut pends = [0x1_0000_0001u64; Image::EVENTS as usize];
     let mut waits = [0x1_0000_0001u64; Image::THREADS as usize];
     let mut waiters = [0u32; Image::EVENTS as usize];
@@ -202,7 +201,7 @@ fn run_laid(
         threads,
         budget,
         &mut pends[..events],
-        &mut waits[..threads as usize],
+        &mut waits[..threads],
         &mut waiters[..events],
         &mut places[..bodies],
         cells,
@@ -221,10 +220,10 @@ fn run_accepted(
     ensures { λ r. ⌜ record { answer = said r; cells = now (cells .exit) } ≡ runs (jobOf (now (table .entry)) (now (choices .entry)) (now (inputs .entry)) budget) (now (cells .entry)) ⌝ }
 {
     let h = frame::decode(table[0]);
-    let threads = h.d;
+    let threads = h.d as usize;
     let updates = h.b as usize;
     let mut firsts = [0usize; Image::BODIES + 1];
-    put_firsts(table, 1 + threads as usize + updates, &mut firsts);
+    put_firsts(table, 1 + threads + updates, &mut firsts);
     zero_cells(cells, h.imm as usize);
     run_laid(
         table,

@@ -8,11 +8,11 @@ use Rattle.machine.proofs.machine.Statement.{statement}
 use Rattle.machine.proofs.machine.Tie as tie
 
 abbrev Inv-loop : tie.InvT-loop
-Inv-loop table choices inputs firsts threads bound pends₀ waits₀ waiters₀ places₀ cells₀ n₀ more₀ pends waits waiters places cells n more =
+Inv-loop table choices inputs firsts bound pends₀ waits₀ waiters₀ places₀ cells₀ threads n₀ more₀ pends waits waiters places cells n more =
     (turns table choices inputs firsts threads more (code n (lists pends waits waiters) places cells) ≡ turns table choices inputs firsts threads more₀ (code n₀ (lists pends₀ waits₀ waiters₀) places₀ cells₀)) × (length pends ≡ length pends₀) × (length waits ≡ length waits₀) × (length waiters ≡ length waiters₀) × (length places ≡ length places₀) × (length cells ≡ length cells₀)
 
 abbrev μ-loop : tie.MeasureT-loop
-μ-loop table choices inputs firsts threads bound pends₀ waits₀ waiters₀ places₀ cells₀ n₀ more₀ pends waits waiters places cells n more =
+μ-loop table choices inputs firsts bound pends₀ waits₀ waiters₀ places₀ cells₀ threads n₀ more₀ pends waits waiters places cells n more =
     more
 
 loop-holds : tie.Need-loop-holds Inv-loop μ-loop

@@ -1,4 +1,5 @@
 use lib.ListN.{replicate}
+use Rattle.dues.specs.Codes.{forNothing}
 use native.Mathlib.Omega.{arith}
 use Rattle.run.proofs.Ends.{cut-counted, laid}
 use borrow.Author.Needs.{needs}
@@ -37,7 +38,8 @@ slice-aggregate-run-from-4 c =
     let p = c .before .before .before .before .before .before .before .before .before .pre in cut-counted _ (replicate 33 0) (omega (arith, p .1, p .3))
 
 run-from-requires : tie.Need-run-from-requires
-run-from-requires c κs = search needs
+run-from-requires c κs =
+    let p = c .before .before .before .before .before .before .before .before .before .before .pre in (p .0, cut-counted _ (replicate 16 forNothing) (p .1))
 
 same-length : tie.Need-same-length
 same-length c = search needs
