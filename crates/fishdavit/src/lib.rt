@@ -2,7 +2,6 @@
 use image::Verdict;
 use run::Answer;
 ghost use mathlib.Core.Path.{_≡_};
-ghost use Prim.Native.Nat.{_≤_};
 ghost use Rattle.image.specs.Judge.{said, judged};
 ghost use Rattle.lines.specs.Text.{outcome, reading, writing};
 ghost use Rattle.kernel.specs.Run.{asked};

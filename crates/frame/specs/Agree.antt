@@ -1,6 +1,6 @@
 -- The table's two columns agree: a cell that an op's meaning reads or writes, and an event or update that it names, stands in a field that the op uses so.
 use Prim.Native.Nat.{ℕ, _+_, _≤_, _<_}
-use mathlib.Core.Path.{_≡_, refl, sym, ap, _∙_}
+use mathlib.Core.Path.{_≡_, refl}
 use mathlib.Core.Bool.{Bool, true, false, _&&_}
 use mathlib.Core.List.{List, [], _∷_}
 use native.Mathlib.Omega.{arith}
@@ -13,10 +13,9 @@ use Rattle.frame.specs.declared.Kind.{Kind}
 use Rattle.frame.specs.declared.Use.{Use}
 use Rattle.frame.specs.declared.Use.the-variants.{Unused, Cell, Event, Thread, Update, Number, Length, Region, Target}
 use Rattle.frame.specs.declared.Uses.{Uses}
-use Rattle.frame.specs.declared.Known.{Known}
 use Rattle.frame.specs.declared.Known.the-variants.{Op, Unknown}
 use Rattle.frame.specs.Ops.{Meaning, takesImm, takesInput, one, two, may, load, store, goto, gotoIf, holds, waitEvent, waitTime, notify, notifyAfter, request, suspend, resume, startLimit, start, unknown, Row, ops, look, lookMeaning, usesOf, meaningOf}
-use Rattle.frame.specs.Fault.{fits, allFit}
+use Rattle.frame.specs.Fault.{fits}
 use Rattle.frame.specs.Laws.{Sound}
 
 abbrev isCell : Use → Bool

@@ -13,7 +13,6 @@ use lib.ListN.{length, getD, set, take, drop, length-append, length-drop, List·
 use lib.Seq.{sets, getD-at, getD-drop, take-suc}
 use Rattle.laws.specs.Choice.{if_then_else_, and-left, and-right}
 use Rattle.laws.specs.Lists.{sets-snoc}
-use Rattle.hex.specs.declared.Number.{Number}
 use Rattle.hex.specs.declared.Number.the-variants.{Is, Malformed}
 use Rattle.hex.specs.Hex.{digitValue, digits, value, numberAt, digitOf, hex, written}
 use Rattle.hex.specs.Steps.{Read}

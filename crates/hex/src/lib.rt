@@ -4,7 +4,6 @@ ghost use Prim.Native.Nat.{_<_, _+_, _≤_};
 ghost use lib.ListN.{length};
 ghost use lib.Seq.{sets};
 ghost use Rattle.hex.specs.Hex.{digitValue, digitOf, hex, numberAt, written};
-ghost use Rattle.hex.specs.Steps.{Read};
 
 // What stands at a place of a text.
 pub enum Number {

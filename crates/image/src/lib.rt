@@ -5,7 +5,6 @@ use frame::Frame;
 use frame::Kind;
 ghost use mathlib.Core.Path.{_≡_};
 ghost use Prim.Native.Nat.{_+_};
-ghost use lib.ListN.{length};
 ghost use Rattle.image.specs.Layout.{countsOf, kindOf};
 ghost use Rattle.image.specs.Judge.{said, headerFits, bodyFits, judged};
 ghost use Rattle.image.specs.Steps.{rest, Passed, Begun, Headed, Stands};

@@ -1,12 +1,12 @@
 -- Laws of the stages from a job's bytes to the printed ones, as the code's returns have them. Assumes nothing.
 use Prim.Native.Nat.{ℕ, _+_, _-_, _*_, _≤_, _<_}
-use mathlib.Core.Path.{_≡_, refl, sym, ap, _∙_}
+use mathlib.Core.Path.{_≡_, sym, ap, _∙_}
 use mathlib.Core.Bool.{Bool, true, false}
 use mathlib.Core.List.{List}
 use native.Mathlib.Omega.{arith}
 use borrow.Author.Tests.{lt-ltb, le-ltb, eq-eqb, ne-eqb}
 use borrow.Rule.Slice.PartAt.{part-to-end}
-use lib.Dec.{eqb, ltb}
+use lib.Dec.{ltb}
 use lib.ListN.{length, getD, take, drop, replicate, length-append}
 use lib.Seq.{take-at, length-take-le}
 use Rattle.laws.specs.Choice.{if_then_else_}

@@ -5,7 +5,6 @@ use mathlib.Core.Bool.{true}
 use native.Mathlib.Omega.{arith}
 use borrow.Author.Tests.{ltb-true}
 use lib.ListN.{length}
-use Rattle.laws.specs.Choice.{if_then_else_}
 use Rattle.image.specs.Layout.{counts, len}
 use Rattle.kernel.specs.Design.{Table, Body, threads, updates, number, lengthOf}
 use Rattle.kernel.specs.Kernel.{Kernel, kernel}

@@ -2,11 +2,11 @@
 use Prim.Native.Nat.{ℕ, zero, suc, _+_, _*_, _≤_, _<_}
 use mathlib.Core.Path.{_≡_, refl, sym, ap, _∙_}
 use mathlib.Core.Bool.{Bool, true, false}
-use mathlib.Core.List.{List, [], _∷_}
+use mathlib.Core.List.{List, _∷_}
 use native.Mathlib.Omega.{arith}
 use native.Mathlib.Decide.{ℕ-discrete}
 use borrow.Author.Tests.{ltb-true, ltb-false, leb-true, leb-false, lt-ltb, ne-eqb}
-use lib.Dec.{eqb, ltb, leb}
+use lib.Dec.{ltb, leb}
 use lib.ListN.{length, take, drop, length-drop, length-take}
 use lib.Seq.{take-all, take-nil, length-take-le}
 use Rattle.hex.specs.declared.Number.{Number}
@@ -17,7 +17,7 @@ use Rattle.image.specs.Judge.{Said, say, fault, judged}
 use Rattle.image.specs.First.{FirstFault, Faultless, Answers, faulty, short, extra, accepted}
 use Rattle.image.proofs.Accepted.{answers, exactly, accepted-has, early-fault, few-said, few-lines, fault-small}
 use Rattle.image.proofs.Cut.{same-due, same-fault}
-use Rattle.lines.specs.Text.{lineAt, before, framesFrom, frames, more, settled, text}
+use Rattle.lines.specs.Text.{lineAt, before, framesFrom, frames, more, settled}
 use Rattle.lines.proofs.Texts.{length-text}
 use Rattle.lines.proofs.RoundTrip.{text-back, settled-good}
 

@@ -17,7 +17,7 @@ use Rattle.hex.specs.declared.Number.the-variants.{Is, Malformed}
 use Rattle.image.specs.Limits.{mostLines}
 use Rattle.image.specs.Judge.{Said, say, judged}
 use Rattle.image.proofs.Accepted.{accepted-has}
-use Rattle.lines.specs.Text.{lineAt, before, framesFrom, frames, more, settled, Outcome, outcome, readAs, reading, line, text, writing}
+use Rattle.lines.specs.Text.{lineAt, before, framesFrom, frames, more, settled, outcome, reading, line, text, writing}
 use Rattle.lines.specs.Both.{Words, Undo}
 use Rattle.lines.proofs.Lines.{line-short, line-there}
 use Rattle.lines.proofs.Texts.{length-line, length-text}

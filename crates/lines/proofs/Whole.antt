@@ -1,5 +1,5 @@
 -- Laws of texts, and of reading and writing as a whole, as the code's returns have them. Assumes nothing.
-use Prim.Native.Nat.{ℕ, zero, suc, _+_, _*_, _/_, _≤_, _<_}
+use Prim.Native.Nat.{ℕ, suc, _+_, _*_, _/_, _≤_, _<_}
 use mathlib.Core.Path.{_≡_, refl, sym, ap, _∙_}
 use mathlib.Core.Bool.{Bool, true, false}
 use mathlib.Core.List.{List, [], _∷_, _++_}
@@ -7,7 +7,7 @@ use native.Mathlib.Omega.{arith}
 use native.Mathlib.Numerals.{add-one}
 use borrow.Author.Tests.{lt-ltb, le-ltb, le-leb, eq-eqb, ne-eqb, eqb-true}
 use lib.Dec.{eqb, ltb}
-use lib.ListN.{length, getD, set, take, drop, length-append}
+use lib.ListN.{length, getD, set, take, drop}
 use lib.Seq.{sets, drop-cons, length-take-le}
 use Rattle.laws.specs.Choice.{if_then_else_}
 use Rattle.laws.specs.Lists.{over, drop-all, stored, sets-append}
@@ -18,7 +18,7 @@ use Rattle.image.specs.Judge.{Said, say, judged}
 use Rattle.lines.specs.Text.{framesFrom, frames, more, settled, Outcome, outcome, readAs, reading, line, text, writing}
 use Rattle.lines.specs.Steps.{Decoded}
 use Rattle.lines.proofs.Texts.{length-line, length-text}
-use Rattle.lines.proofs.Cap.{looking, same-answer, same-frames}
+use Rattle.lines.proofs.Cap.{same-answer, same-frames}
 
 -- the line of a frame, written
 pub line-put : (l b : List ℕ) (at f : ℕ) → at + 17 ≤ length b → l ≡ written f 16 b at → set l (at + 16) 0x0a ≡ sets b at (line f)

@@ -11,7 +11,6 @@ use Rattle.laws.specs.Choice.{and-left, and-right}
 use Rattle.frame.specs.Fields.{fields}
 use Rattle.effect.specs.declared.Eff.{Eff}
 use Rattle.effect.specs.declared.Eff.the-variants.{Put, Next, Go, Stop, Leave}
-use Rattle.plain.specs.declared.End.{End}
 use Rattle.plain.specs.declared.End.the-variants.{Ended, Left, Stopped}
 use Rattle.plain.specs.Plain.{Out, out, when, after, plainEffect, plain, able, runPlain}
 

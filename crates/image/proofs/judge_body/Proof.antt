@@ -1,7 +1,7 @@
 use native.Mathlib.Omega.{arith}
 use Rattle.image.proofs.Walk.{body-done}
 use Prim.Native.Nat.{_≤_, _-_}
-use mathlib.Core.Path.{_≡_, refl, sym, _∙_}
+use mathlib.Core.Path.{_≡_}
 use native.Mathlib.Omega.{arith}
 use lib.ListN.{length}
 use borrow.Author.Needs.{needs}

@@ -1,11 +1,10 @@
 use Prim.Native.Nat.{_≤_, _+_, _-_}
-use mathlib.Core.Path.{_≡_, refl, sym, ap, _∙_}
-use native.Mathlib.Omega.{arith}
+use mathlib.Core.Path.{_≡_, refl}
 use lib.ListN.{length}
 use borrow.Author.Needs.{needs}
 use Rattle.image.specs.Layout.{first}
 use Rattle.image.specs.Steps.{rest}
-use Rattle.image.proofs.Walk.{table-laws, bodies-begin}
+use Rattle.image.proofs.Walk.{table-laws}
 use Rattle.image.proofs.judge_instructions.Statement.{statement}
 use Rattle.image.proofs.judge_instructions.Tie as tie
 

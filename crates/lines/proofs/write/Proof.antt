@@ -1,4 +1,3 @@
-use native.Mathlib.Omega.{arith}
 use Rattle.lines.proofs.Whole.{write-laws}
 use borrow.Author.Needs.{needs}
 use Rattle.lines.proofs.write.Statement.{statement}

@@ -2,9 +2,8 @@ use borrow.Author.Needs.{needs}
 use mathlib.Core.Logic.{⊎-elim}
 use Rattle.plain.proofs.Turns.{loop-laws, loop-puts, loop-nexts, loop-goes}
 use Rattle.plain.specs.Plain.{plain}
-use Prim.Native.Nat.{_≤_}
 use mathlib.Core.Path.{_≡_, refl}
-use lib.ListN.{length, length-set}
+use lib.ListN.{length}
 use Rattle.plain.proofs.run_body.Statement.{statement}
 use Rattle.plain.proofs.run_body.Tie as tie
 use Rattle.plain.proofs.run_body.Reads as reads
