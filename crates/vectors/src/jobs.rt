@@ -1,7 +1,6 @@
 // The cases of standard input, one after another. Each begins with a line of its own, by whose first byte it is known:
 // `+` is a heading, `-` a table to be judged, `#` a job to be answered. What belongs to it are the lines up to the next
 // that begins with one of the three, or to the input's end.
-use crate::tables;
 ghost use Prim.Native.Nat.{_<_, _≤_};
 ghost use lib.ListN.{length};
 
@@ -69,7 +68,7 @@ fn one_case(text: &[u8], at: usize) -> usize
     if text[at] == b'#' {
         answered(&text[at..start], &text[start..end]);
     } else {
-        tables::shown(text[at], &text[at..start], &text[start..end]);
+        cases::tables::shown(text[at], &text[at..start], &text[start..end]);
     }
     end
 }

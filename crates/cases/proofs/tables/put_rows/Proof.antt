@@ -3,8 +3,8 @@ use Prim.Native.Nat.{_≤_, _-_, _*_}
 use mathlib.Core.Path.{_≡_}
 use lib.ListN.{length}
 use borrow.Author.Needs.{needs}
-use Rattle.vectors.proofs.tables.put_rows.Statement.{statement}
-use Rattle.vectors.proofs.tables.put_rows.Tie as tie
+use Rattle.cases.proofs.tables.put_rows.Statement.{statement}
+use Rattle.cases.proofs.tables.put_rows.Tie as tie
 
 abbrev Inv-loop : tie.InvT-loop
 Inv-loop rows table₀ frames₀ i₀ i-end table frames i = (length table ≡ length table₀) × ((i ≤ i-end) × (22 * i-end ≤ length rows))

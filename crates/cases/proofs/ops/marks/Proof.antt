@@ -3,8 +3,8 @@ use Prim.Native.Nat.{_≤_, _-_}
 use mathlib.Core.Path.{_≡_}
 use lib.ListN.{length}
 use borrow.Author.Needs.{needs}
-use Rattle.vectors.proofs.ops.marks.Statement.{statement}
-use Rattle.vectors.proofs.ops.marks.Tie as tie
+use Rattle.cases.proofs.ops.marks.Statement.{statement}
+use Rattle.cases.proofs.ops.marks.Tie as tie
 
 abbrev Inv-loop : tie.InvT-loop
 Inv-loop line instruction bit values i₀ i-end i = (i ≤ i-end) × (i-end ≡ length values)

@@ -3,8 +3,8 @@ use Prim.Native.Nat.{_≤_, _-_}
 use mathlib.Core.Path.{_≡_}
 use lib.ListN.{length}
 use borrow.Author.Needs.{needs}
-use Rattle.vectors.proofs.tables.put_times.Statement.{statement}
-use Rattle.vectors.proofs.tables.put_times.Tie as tie
+use Rattle.cases.proofs.tables.put_times.Statement.{statement}
+use Rattle.cases.proofs.tables.put_times.Tie as tie
 
 abbrev Inv-loop : tie.InvT-loop
 Inv-loop table₀ line frame count end₀ turn₀ table end turn = (length table ≡ length table₀) × (turn ≤ count)

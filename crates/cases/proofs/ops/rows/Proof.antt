@@ -1,8 +1,8 @@
 -- The ops that are left become fewer; nothing has to hold from turn to turn.
 use Prim.Native.Nat.{_-_}
 use borrow.Author.Needs.{needs}
-use Rattle.vectors.proofs.ops.rows.Statement.{statement}
-use Rattle.vectors.proofs.ops.rows.Tie as tie
+use Rattle.cases.proofs.ops.rows.Statement.{statement}
+use Rattle.cases.proofs.ops.rows.Tie as tie
 
 abbrev Inv-loop : tie.InvT-loop
 Inv-loop line first last b op₀ op = Unit {0}
