@@ -1,4 +1,5 @@
--- What the numbers stand for, in the kernel's types. Every number stands for something, so no rule on the numbers is to be kept.
+-- What the numbers of due times stand for, in the kernel's types. Every number stands for something; that the lists of events and threads
+-- hold none for the delta phase, which is a mark, is kept by `Shows`.
 use Prim.Native.Nat.{ℕ, zero, suc}
 use lib.Dec.{leb}
 use Rattle.laws.specs.Choice.{if_then_else_}

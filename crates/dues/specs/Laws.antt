@@ -1,5 +1,5 @@
 -- What the code makes of the numbers is what the kernel makes of what they stand for. Assumes nothing.
-use Prim.Native.Nat.{ℕ, zero, suc, _+_, _≤_, _<_, min}
+use Prim.Native.Nat.{ℕ, zero, suc, _≤_, _<_, min}
 use mathlib.Core.Path.{_≡_, refl, sym, ap, _∙_}
 use mathlib.Core.Bool.{Bool, true, false, _&&_}
 use mathlib.Core.List.{List}
@@ -61,11 +61,6 @@ pub asked : (now d : ℕ) → momentOf (askCode now d) ≡ afterDelay now d
 unfolding askCode momentOf
 asked now zero = refl
 asked now (suc n) = rw (eqb·suc-zero n, add-one)
-
-pub asked-low : (now d : ℕ) → now + d ≤ 4294967295 → askCode now d ≤ lastTime
-unfolding askCode
-asked-low now zero h = omega arith
-asked-low now (suc n) h = rw (eqb·suc-zero n) (omega arith)
 
 earlier-moment : (q c : ℕ) → momentOf (min q c) ≡ earlier (momentOf q) (momentOf c)
 unfolding momentOf

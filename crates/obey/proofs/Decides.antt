@@ -200,5 +200,3 @@ module _ (t b : ℕ) (i : Frame) (n : Now) (inputs ps ws es cs : List ℕ) (r : 
   obey-other h o e =
       ap (λ (x : Done). did (x .came) (kept (x .marks) l) cs) e
       ∙ by-other (meaningOf (i .op)) (the-rest (λ k. other (meaningOf k)) singles [] every (i .op) h o tt)
-
-pub ruleset obey-laws = (obey-input, obey-event, obey-time, obey-after, obey-notify, obey-request, obey-suspend, obey-resume, obey-limit, obey-start)

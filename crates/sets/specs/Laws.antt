@@ -8,8 +8,8 @@ use native.Mathlib.Omega.{arith}
 use borrow.Author.Tests.{lt-ltb, ne-eqb, eqb-true, eqb-false, ltb-true, ltb-false}
 use lib.Dec.{eqb, ltb, eqb·zero-suc, eqb·suc-zero, eqb·suc-suc, leb·suc-zero, leb·suc-suc}
 use lib.Arith.{digits-mod}
-use lib.Pow.{pow-pos, pow-mono, pow-lt, shr-shr, mod-pow-add}
-use lib.Bits.{bitAnd, bitOr, and-step, or-step, and-shr, or-shr, and-le-l, and-mask, or-lt}
+use lib.Pow.{pow-pos, pow-mono, shr-shr, mod-pow-add}
+use lib.Bits.{bitAnd, bitOr, and-step, or-step, and-shr, or-shr, and-le-l, and-mask}
 use lib.Count.{trailingZeros, under}
 use Rattle.laws.specs.Choice.{if_then_else_}
 use Rattle.sets.specs.Sets.{has, single, join, minus, with, without, below, leastOf}
@@ -145,38 +145,10 @@ has-below n i l = go (ltb n 32) refl
     go true e = has-ones n i
     go false e = has-full i l ∙ sym (lt-ltb i n (omega (arith, ltb-false)))
 
--- results are sets of 32 bits where the arguments are
-pub single-fits : (i : ℕ) → single i < 4294967296
-unfolding single
-single-fits i = go (ltb i 32) refl
-  where
-    go : (z : Bool) → ltb i 32 ≡ z → (if z then 2 ^ i else 0) < 4294967296
-    go true e = pow-lt {i = i} {j = 32} (ltb-true i 32 e)
-    go false e = omega arith
-
-pub join-fits : (a b : ℕ) → a < 4294967296 → b < 4294967296 → join a b < 4294967296
-unfolding join
-join-fits a b h l = or-lt 32 a b h l
-
+-- what is left of a set of 32 bits is one
 pub minus-fits : (a b : ℕ) → a < 4294967296 → minus a b < 4294967296
 unfolding minus
 minus-fits a b h = lt-of-le-of-lt (and-le-l a (4294967295 - b % 4294967296)) h
-
-pub with-fits : (s i : ℕ) → s < 4294967296 → with s i < 4294967296
-unfolding with
-with-fits s i h = join-fits s (single i) h (single-fits i)
-
-pub without-fits : (s i : ℕ) → s < 4294967296 → without s i < 4294967296
-unfolding without
-without-fits s i h = minus-fits s (single i) h
-
-pub below-fits : (n : ℕ) → below n < 4294967296
-unfolding below
-below-fits n = go (ltb n 32) refl
-  where
-    go : (z : Bool) → ltb n 32 ≡ z → (if z then 2 ^ n - 1 else 4294967295) < 4294967296
-    go true e = omega (arith, pow-lt {i = n} {j = 32} (ltb-true n 32 e))
-    go false e = omega arith
 
 -- one number more, or less
 or-test : (x z : Bool) → x || z ≡ (if z then true else x)
