@@ -8,7 +8,7 @@ minus-requires c κs = search needs
 
 returns : tie.Need-returns
 unfolding notEnded
-returns c = cc
+returns c = search needs
 
 pub not-ended-spec : {M : Type 1} → statement M
 not-ended-spec = tie.close (tie.spec minus-requires returns)
