@@ -1,4 +1,4 @@
--- What the code makes of the marks. Document 01, "The kernel"; the crate `shows` says what that is for the kernel they show.
+-- What the code, here and in the crate `marking`, makes of the marks. Document 01, "The kernel"; the crate `shows` says what that is for the kernel they show.
 use Prim.Native.Nat.{ℕ, _%_}
 use mathlib.Core.Bool.{Bool, not, _&&_}
 use lib.Dec.{eqb, ltb}

@@ -200,11 +200,11 @@ pub fn end_body(n: Now, b: usize, threads: usize) -> Now
     }
     let marks = n.marks;
     if b <= threads {
-        return to_marks(n, Control::Evaluation, marks::end(marks, b - 1));
+        return to_marks(n, Control::Evaluation, marking::end(marks, b - 1));
     }
     to_marks(
         n,
         Control::UpdatePhase,
-        marks::finish(marks, b - 1 - threads),
+        marking::finish(marks, b - 1 - threads),
     )
 }

@@ -196,7 +196,7 @@ fn request(b: usize, stage: u8, d: usize, marks: Marks) -> Done
     if is_past(b, stage) {
         return done(Obeyed::Stops(18), marks);
     }
-    done(Obeyed::Goes, marks::request(marks, d))
+    done(Obeyed::Goes, marking::request(marks, d))
 }
 
 // Op 65: suspend thread d.
@@ -206,7 +206,7 @@ fn suspend(b: usize, stage: u8, d: usize, marks: Marks) -> Done
     if is_past(b, stage) {
         return done(Obeyed::Stops(18), marks);
     }
-    done(Obeyed::Goes, marks::suspend(marks, d))
+    done(Obeyed::Goes, marking::suspend(marks, d))
 }
 
 // Op 66: resume thread d.
@@ -216,7 +216,7 @@ fn resume(b: usize, stage: u8, d: usize, marks: Marks) -> Done
     if is_past(b, stage) {
         return done(Obeyed::Stops(18), marks);
     }
-    done(Obeyed::Goes, marks::resume(marks, d))
+    done(Obeyed::Goes, marking::resume(marks, d))
 }
 
 // Ops 67 and 68: start, once.

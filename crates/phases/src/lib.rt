@@ -34,7 +34,7 @@ pub fn wait_event(m: Marks, waiters: &mut [u32], i: usize, e: usize) -> Marks
 {
     let w = waiters_of(waiters, e);
     put_waiters(waiters, e, sets::with(w, i));
-    marks::with_waiting(m, sets::with(m.waiting, i))
+    marking::with_waiting(m, sets::with(m.waiting, i))
 }
 
 // Thread i waits for the moment q.
@@ -43,10 +43,10 @@ pub fn wait_time(m: Marks, waits: &mut [u64], i: usize, q: u64) -> Marks
     ensures { λ r. ⌜ now (waits .exit) ≡ waitsAt q i (now (waits .entry)) ⌝ }
 {
     if q == 0 {
-        return marks::wait_delta(m, i);
+        return marking::wait_delta(m, i);
     }
     dues::put(waits, i, q);
-    marks::with_waiting(m, sets::with(m.waiting, i))
+    marking::with_waiting(m, sets::with(m.waiting, i))
 }
 
 // Event e pends for the earlier of what it pends for and the moment q.
@@ -59,7 +59,7 @@ pub fn notify_after(m: Marks, pends: &mut [u64], e: usize, q: u64) -> Marks
         pends[e] = c;
     }
     if q == 0 {
-        return marks::with_pending(m, sets::with(m.pending, e));
+        return marking::with_pending(m, sets::with(m.pending, e));
     }
     m
 }
@@ -141,5 +141,5 @@ pub fn serve_time(
     let threads = dues::take_due(waits, q);
     let events = dues::take_due(pends, q);
     let still = free_all(sets::minus(m.waiting, threads), events, waiters);
-    marks::with_waiting(m, still)
+    marking::with_waiting(m, still)
 }

@@ -1,5 +1,5 @@
 use borrow.Author.Needs.{needs}
-use Rattle.marks.proofs.Arms.{change-laws}
+use Rattle.marks.proofs.Arms.{straight-laws}
 use Rattle.marks.proofs.first_marks.Statement.{statement}
 use Rattle.marks.proofs.first_marks.Tie as tie
 
@@ -10,7 +10,7 @@ minus-requires : tie.Need-minus-requires
 minus-requires c κs = search needs
 
 returns : tie.Need-returns
-returns c = search change-laws
+returns c = search straight-laws
 
 pub first-marks-spec : {M : Type 1} → statement M
 first-marks-spec = tie.close (tie.spec below-requires minus-requires returns)

@@ -1,7 +1,7 @@
 use borrow.Author.Needs.{needs}
-use Rattle.marks.proofs.Arms.{resume-laws}
-use Rattle.marks.proofs.resume.Statement.{statement}
-use Rattle.marks.proofs.resume.Tie as tie
+use Rattle.marking.proofs.Arms.{resume-laws}
+use Rattle.marking.proofs.resume.Statement.{statement}
+use Rattle.marking.proofs.resume.Tie as tie
 
 has-requires : tie.Need-has-requires
 has-requires c κs = search needs

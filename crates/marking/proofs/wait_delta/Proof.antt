@@ -1,7 +1,7 @@
 use borrow.Author.Needs.{needs}
-use Rattle.marks.proofs.Arms.{change-laws}
-use Rattle.marks.proofs.wait_delta.Statement.{statement}
-use Rattle.marks.proofs.wait_delta.Tie as tie
+use Rattle.marking.proofs.Arms.{change-laws}
+use Rattle.marking.proofs.wait_delta.Statement.{statement}
+use Rattle.marking.proofs.wait_delta.Tie as tie
 
 with-requires : tie.Need-with-requires
 with-requires c κs = search needs

@@ -1,9 +1,9 @@
 use borrow.Author.Needs.{needs}
 use Rattle.marks.specs.Marks.{suspended}
 use Rattle.laws.specs.Choice.{picks}
-use Rattle.marks.proofs.Arms.{resume-laws}
-use Rattle.marks.proofs.suspend.Statement.{statement}
-use Rattle.marks.proofs.suspend.Tie as tie
+use Rattle.marking.proofs.Arms.{resume-laws}
+use Rattle.marking.proofs.suspend.Statement.{statement}
+use Rattle.marking.proofs.suspend.Tie as tie
 
 has-requires : tie.Need-has-requires
 has-requires c κs = search needs

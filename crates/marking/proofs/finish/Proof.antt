@@ -1,7 +1,7 @@
 use borrow.Author.Needs.{needs}
-use Rattle.marks.proofs.Arms.{change-laws}
-use Rattle.marks.proofs.finish.Statement.{statement}
-use Rattle.marks.proofs.finish.Tie as tie
+use Rattle.marking.proofs.Arms.{change-laws}
+use Rattle.marking.proofs.finish.Statement.{statement}
+use Rattle.marking.proofs.finish.Tie as tie
 
 without-requires : tie.Need-without-requires
 without-requires c κs = search needs
