@@ -6,7 +6,7 @@ use mathlib.Core.Bool.{Bool, true, false, _||_, true≢false}
 use mathlib.Core.Logic.{_⊎_, inl, inr}
 use native.Mathlib.Omega.{arith}
 use lib.Dec.{ltb, eqb}
-use lib.ListN.{length}
+use lib.ListN.{length, getD}
 use borrow.Author.Tests.{ltb-true, ltb-false, eqb-true, eqb-false}
 use Rattle.kernel.specs.Search.{Found, none, found, nth, any, firstOf, first, lesser, least, sum}
 
@@ -187,3 +187,15 @@ unfolding nth
 nth-some [] i c q = absurd (unfound c q)
 nth-some (x ∷ l) zero c q = omega arith
 nth-some (x ∷ l) (suc i) c q = omega (arith, nth-some l i c q)
+
+pub nth-past : (l : List ℕ) (i : ℕ) → length l ≤ i → nth l i ≡ none
+unfolding nth
+nth-past [] i h = refl
+nth-past (x ∷ l) zero h = absurd (omega arith)
+nth-past (x ∷ l) (suc i) h = nth-past l i (omega arith)
+
+pub nth-at : (l : List ℕ) (i : ℕ) → i < length l → nth l i ≡ found (getD l i 0)
+unfolding nth
+nth-at [] i h = absurd (omega arith)
+nth-at (x ∷ l) zero h = refl
+nth-at (x ∷ l) (suc i) h = nth-at l i (omega arith)

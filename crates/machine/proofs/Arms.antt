@@ -32,7 +32,7 @@ use Rattle.turns.specs.declared.Done.{Done}
 use Rattle.shows.specs.Shows.{Lists, lists, kept}
 use Rattle.turns.specs.Code.{goesTo, marksTo, entersTo, entersAt, deltaTo, deltaIn, leastOf, timedBy, servedBy, endsTo, did, code, obeyed, staysAt, nextInput, withLeft, completedTo, completedAt, completed, ranTo, bodyRun, settled, turnFrom, turn, isOver, turns, Code}
 use Rattle.obey.proofs.Arms.{cell-past}
-use Rattle.moves.proofs.Arms.{lost, settle-same}
+use Rattle.evaluation.proofs.Arms.{lost, settle-same}
 
 -- The update phase
 asked-few : (m : Marks) (u : ℕ) → firstAsked m ≡ found u → u < 32

@@ -33,11 +33,11 @@ fn update_phase(n: Now, threads: usize, places: &mut [usize]) -> Now
 {
     let marks = n.marks;
     let Found::At(u) = marks::first_requested(marks) else {
-        return moves::to(n, Control::DeltaPhase);
+        return turns::to(n, Control::DeltaPhase);
     };
     let b = threads + 1 + u;
     put_place(places, b, 0);
-    moves::to(n, Control::Runs(b))
+    turns::to(n, Control::Runs(b))
 }
 
 // Where body b stands after what it asked of the kernel, where it did not wait: a thread that is suspended gives control back.
@@ -156,7 +156,7 @@ fn complete(
     let came = o.came;
     let marks = o.marks;
     match came {
-        Obeyed::Stops(k) => moves::to(n, Control::Over(k, b, p)),
+        Obeyed::Stops(k) => turns::to(n, Control::Over(k, b, p)),
         Obeyed::Goes => {
             put_place(places, b, p + 1);
             counted(n, stay(b, threads, marks), marks)
@@ -268,7 +268,7 @@ fn after_plain(
     let end = ran.end;
     match end {
         End::Ended => moves::end_body(n, b, threads),
-        End::Stopped(k) => moves::to(n, Control::Over(k, b, p)),
+        End::Stopped(k) => turns::to(n, Control::Over(k, b, p)),
         End::Left => obey_at(
             table,
             base + p,
@@ -356,7 +356,7 @@ fn turn_once(
     requires { ⌜ threads < 2 ^ 63 ⌝ }
     ensures { λ r. ⌜ code r (lists (now (pends .exit)) (now (waits .exit)) (now (waiters .exit))) (now (places .exit)) (now (cells .exit)) ≡ turn (now (table .entry)) (now (choices .entry)) (now (inputs .entry)) (now (firsts .entry)) threads (code n (lists (now (pends .entry)) (now (waits .entry)) (now (waiters .entry))) (now (places .entry)) (now (cells .entry))) ⌝ }
 {
-    let m = moves::settle(choices, n);
+    let m = evaluation::settle(choices, n);
     let c = m.control;
     match c {
         Control::Runs(b) => run_body(

@@ -11,6 +11,7 @@ use lib.Seq.{set-out}
 use Rattle.laws.specs.Choice.{and-left}
 use Rattle.kernel.specs.Search.{nth, sum}
 use Rattle.kernel.proofs.Measure.{time-one}
+use Rattle.kernel.proofs.Search.{nth-past, nth-at}
 use Rattle.sets.specs.Sets.{has, with}
 use Rattle.marks.specs.declared.Marks.{Marks}
 use Rattle.dues.specs.Codes.{lastTime, forNothing, pendOf}
@@ -21,7 +22,6 @@ use Rattle.turns.specs.declared.Obeyed.the-variants.{Stops, Goes, Waits, Took, 
 use Rattle.turns.specs.declared.Done.{Done}
 use Rattle.shows.specs.Shows.{Lists, lists, Kept, kept}
 use Rattle.turns.specs.Code.{isThread, Did, did, isPast, waitCame, waitedOn, waitedTill, triggeredIn, askedIn, addsTime, tookBy, timesIn, full, dueBy, inTime, startsBy}
-use Rattle.moves.proofs.Arms.{nth-past, nth-at}
 
 -- past the end of a list
 pub set-past : (l : List ℕ) (i v : ℕ) → length l ≤ i → l ≡ set l i v

@@ -1,6 +1,8 @@
-// The machine's state as numbers: the types of the run's code. specs/ says what a turn makes of them, and proofs/ that it is some steps
-// of the machine; no code.
+// The machine's state as numbers: the types of the run's code, and the machine at another place. specs/ says what a turn makes of the
+// state, and proofs/ that it is some steps of the machine.
 use marks::Marks;
+ghost use mathlib.Core.Path.{_≡_};
+ghost use Rattle.turns.specs.Code.{goesTo, marksTo};
 
 // Where the machine stands: body b runs, a phase, the turn to evaluation or time, or the run is over with number, body and place.
 pub enum Control {
@@ -46,4 +48,28 @@ pub enum Obeyed {
 pub struct Done {
     pub came: Obeyed,
     pub marks: Marks,
+}
+
+// The machine at another place.
+pub fn to(n: Now, c: Control) -> Now
+    ensures { λ r. ⌜ r ≡ goesTo c n ⌝ }
+{
+    let marks = n.marks;
+    to_marks(n, c, marks)
+}
+
+// And with other marks.
+pub fn to_marks(n: Now, c: Control, marks: Marks) -> Now
+    ensures { λ r. ⌜ r ≡ marksTo c marks n ⌝ }
+{
+    Now {
+        control: c,
+        time: n.time,
+        limit: n.limit,
+        stage: n.stage,
+        left: n.left,
+        chosen: n.chosen,
+        taken: n.taken,
+        marks: marks,
+    }
 }

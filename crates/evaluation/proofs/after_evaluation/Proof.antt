@@ -1,7 +1,7 @@
-use Rattle.moves.proofs.Arms.{idle-none, idle-some}
+use Rattle.evaluation.proofs.Arms.{idle-none, idle-some}
 use borrow.Author.Needs.{needs}
-use Rattle.moves.proofs.after_evaluation.Statement.{statement}
-use Rattle.moves.proofs.after_evaluation.Tie as tie
+use Rattle.evaluation.proofs.after_evaluation.Statement.{statement}
+use Rattle.evaluation.proofs.after_evaluation.Tie as tie
 
 first-requested-requires : tie.Need-first-requested-requires
 first-requested-requires c κs = search needs

@@ -1,10 +1,10 @@
 use Prim.Native.Nat.{_<_}
 use lib.ListN.{length}
 use native.Mathlib.Omega.{arith}
-use Rattle.moves.proofs.Arms.{choice-there, evaluated-laws}
+use Rattle.evaluation.proofs.Arms.{choice-there, evaluated-laws}
 use borrow.Author.Needs.{needs}
-use Rattle.moves.proofs.evaluate.Statement.{statement}
-use Rattle.moves.proofs.evaluate.Tie as tie
+use Rattle.evaluation.proofs.evaluate.Statement.{statement}
+use Rattle.evaluation.proofs.evaluate.Tie as tie
 
 next-choice-requires : tie.Need-next-choice-requires
 next-choice-requires c κs = search needs

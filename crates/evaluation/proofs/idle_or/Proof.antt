@@ -1,7 +1,7 @@
-use Rattle.moves.proofs.Arms.{not-idle, is-idle}
+use Rattle.evaluation.proofs.Arms.{not-idle, is-idle}
 use borrow.Author.Needs.{needs}
-use Rattle.moves.proofs.idle_or.Statement.{statement}
-use Rattle.moves.proofs.idle_or.Tie as tie
+use Rattle.evaluation.proofs.idle_or.Statement.{statement}
+use Rattle.evaluation.proofs.idle_or.Tie as tie
 
 any-runnable-requires : tie.Need-any-runnable-requires
 any-runnable-requires c κs = search needs

@@ -1,7 +1,7 @@
-use Rattle.moves.proofs.Arms.{choice-laws}
+use Rattle.evaluation.proofs.Arms.{choice-laws}
 use borrow.Author.Needs.{needs}
-use Rattle.moves.proofs.next_choice.Statement.{statement}
-use Rattle.moves.proofs.next_choice.Tie as tie
+use Rattle.evaluation.proofs.next_choice.Statement.{statement}
+use Rattle.evaluation.proofs.next_choice.Tie as tie
 
 returns : tie.Need-returns
 returns c = search (choice-laws, needs)

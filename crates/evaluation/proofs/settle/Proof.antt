@@ -1,7 +1,7 @@
-use Rattle.moves.proofs.Arms.{settle-turn, settle-evaluation, settle-same}
+use Rattle.evaluation.proofs.Arms.{settle-turn, settle-evaluation, settle-same}
 use borrow.Author.Needs.{needs}
-use Rattle.moves.proofs.settle.Statement.{statement}
-use Rattle.moves.proofs.settle.Tie as tie
+use Rattle.evaluation.proofs.settle.Statement.{statement}
+use Rattle.evaluation.proofs.settle.Tie as tie
 
 enum-told : tie.Need-enum-told
 enum-told c = search needs
