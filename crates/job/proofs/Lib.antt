@@ -1,5 +1,4 @@
 pub mod Reading
-pub mod Puts
 pub mod Stages
 pub mod Unique
 pub mod Longest

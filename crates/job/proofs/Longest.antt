@@ -21,7 +21,7 @@ use Rattle.run.proofs.Ends.{few-counts}
 use Rattle.program.specs.JobLines.{afterLine, budgetOf, Numbers, these, malformed, numbersOf}
 use Rattle.program.specs.Printing.{answerLine, cellLines, shown, refusal, mostPrinted}
 use Rattle.program.specs.Whole.{fromTable, fromImage, byInputs, fromInputs, byChoices, fromChoices, byBudget, printed}
-use Rattle.job.proofs.Puts.{length-line, length-cells}
+use Rattle.printing.proofs.Puts.{length-line, length-cells}
 use Rattle.job.proofs.Stages.{table-good}
 
 length-shown : (a : Answer) (cells : List ℕ) → length (shown a cells) ≤ 44 + 9 * length cells

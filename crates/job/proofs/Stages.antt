@@ -30,13 +30,14 @@ use Rattle.job.specs.declared.Listed.the-variants.{Count, Broken}
 use Rattle.job.specs.Steps.{listed, countOf}
 use Rattle.program.specs.JobLines.{lineLength, afterLine, budgetOf, numbersOf}
 use Rattle.program.specs.Printing.{shown, refusal, mostPrinted}
-use Rattle.program.specs.Whole.{firstCells, fromTable, byImage, fromImage, fromInputs, fromChoices, printed, Written, wrote, put, answered}
+use Rattle.program.specs.Whole.{firstCells, fromTable, byImage, fromImage, fromInputs, fromChoices, printed, Written, wrote, put, shownIn, answered}
+use Rattle.printing.proofs.Puts.{shown-is}
 
 -- the run of a table, printed
-pub table-shown : (t ch ins cs out : List ℕ) (b : ℕ) (a : Answer) (f : Frame) (w : Written) → record { answer = a; cells = cs } ≡ asked (jobOf t ch ins b) (replicate mostCells 0) → f ≡ fields (getD t 0 0) → w ≡ put (shown a (take (f .imm) cs)) out → w ≡ put (fromTable (jobOf t ch ins b)) out
+pub table-shown : (t ch ins cs out : List ℕ) (b : ℕ) (a : Answer) (f : Frame) (w : Written) → record { answer = a; cells = cs } ≡ asked (jobOf t ch ins b) (replicate mostCells 0) → f ≡ fields (getD t 0 0) → 44 + 9 * length (take (f .imm) cs) ≤ length out → w ≡ shownIn a (take (f .imm) cs) out → w ≡ put (fromTable (jobOf t ch ins b)) out
 unfolding fromTable counts
-table-shown t ch ins cs out b a f w e g q =
-    q ∙ ap (λ (r : Ran). put (firstCells (f .imm) r) out) e
+table-shown t ch ins cs out b a f w e g h q =
+    shown-is a (take (f .imm) cs) out w h q ∙ ap (λ (r : Ran). put (firstCells (f .imm) r) out) e
     ∙ ap (λ (h : Frame). put (firstCells (h .imm) (asked (jobOf t ch ins b) (replicate mostCells 0))) out) g
 
 -- the first cells of a run on an accepted table

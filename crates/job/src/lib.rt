@@ -5,21 +5,17 @@ use run::Answer;
 ghost use mathlib.Core.Path.{_≡_};
 ghost use Prim.Native.Nat.{_+_, _*_, _≤_};
 ghost use lib.ListN.{length};
-ghost use lib.Seq.{sets};
 ghost use Rattle.image.specs.Limits.{mostChoices, mostInputs};
 ghost use Rattle.image.specs.Judge.{judged};
-ghost use Rattle.run.specs.Code.{said, jobOf};
+ghost use Rattle.run.specs.Code.{jobOf};
 ghost use Rattle.program.specs.JobLines.{lineLength, budgetOf, numbersFrom, numbersOf};
-ghost use Rattle.program.specs.Printing.{field, stopFields, countFields, answerLine, cellLines, shown, refusal, mostPrinted};
+ghost use Rattle.program.specs.Printing.{refusal, mostPrinted};
 ghost use Rattle.program.specs.Whole.{fromTable, fromImage, fromInputs, fromChoices, printed, wrote, put, answered};
 ghost use Rattle.job.specs.Steps.{listed, countOf};
 
-// The bytes of the answer's line, of a cell's line, and of the longest answer.
-const ANSWER_LINE: usize = 44;
-
-const CELL_LINE: usize = 9;
-
-pub const LONGEST_ANSWER: usize = ANSWER_LINE + CELL_LINE * Image::CELLS as usize;
+// The bytes of the longest answer.
+pub const LONGEST_ANSWER: usize = printing::ANSWER_LINE
+    + printing::CELL_LINE * Image::CELLS as usize;
 
 // The bytes of the longest job, which are those of its three lines and of its image, and one more: what stands past them changes no answer.
 pub const LONGEST_JOB: usize = 9
@@ -114,70 +110,6 @@ fn inputs_of(text: &[u8], line: usize, inputs: &mut [u32]) -> Listed
     list_inputs(text, line / 8, inputs)
 }
 
-// Writes the n digits of x from byte at on, and the byte that follows them.
-fn put_field(x: u32, n: usize, end: u8, out: &mut [u8], at: usize)
-    requires { ⌜ at + n + 1 ≤ length (now out) ⌝ }
-    ensures { λ r. ⌜ now (out .exit) ≡ sets (now (out .entry)) at (field n x end) ⌝ }
-{
-    hex::write_at(x as u64, n, out, at);
-    out[at + n] = end;
-}
-
-// Writes where and when the run stopped.
-fn put_stop(a: Answer, out: &mut [u8])
-    requires { ⌜ 44 ≤ length (now out) ⌝ }
-    ensures { λ r. ⌜ now (out .exit) ≡ sets (now (out .entry)) 0 (stopFields (said a)) ⌝ }
-{
-    put_field(a.number, 2, b' ', out, 0);
-    put_field(a.body, 2, b' ', out, 3);
-    put_field(a.place, 4, b' ', out, 6);
-    put_field(a.time, 8, b' ', out, 11);
-}
-
-// Writes what the run took and left.
-fn put_counts(a: Answer, out: &mut [u8])
-    requires { ⌜ 44 ≤ length (now out) ⌝ }
-    ensures { λ r. ⌜ now (out .exit) ≡ sets (now (out .entry)) 20 (countFields (said a)) ⌝ }
-{
-    put_field(a.instructions, 8, b' ', out, 20);
-    put_field(a.choices, 4, b' ', out, 29);
-    put_field(a.inputs, 4, b' ', out, 34);
-    put_field(a.threads, 4, b'\n', out, 39);
-}
-
-fn put_answer(a: Answer, out: &mut [u8])
-    requires { ⌜ 44 ≤ length (now out) ⌝ }
-    ensures { λ r. ⌜ now (out .exit) ≡ sets (now (out .entry)) 0 (answerLine (said a)) ⌝ }
-{
-    put_stop(a, out);
-    put_counts(a, out);
-}
-
-// Writes the lines of the cells after the answer's line.
-fn put_cells(cells: &[u32], out: &mut [u8])
-    requires { ⌜ 44 + 9 * length (now cells) ≤ length (now out) ⌝ }
-    ensures { λ r. ⌜ now (out .exit) ≡ sets (now (out .entry)) 44 (cellLines (now (cells .entry))) ⌝ }
-{
-    let mut i: usize = 0;
-    while i < cells.len() {
-        put_field(cells[i], 8, b'\n', out, ANSWER_LINE + CELL_LINE * i);
-        i = i + 1;
-    }
-}
-
-// Writes an answer and, unless it is a refusal, the cells.
-fn show(a: Answer, cells: &[u32], out: &mut [u8]) -> usize
-    requires { ⌜ 44 + 9 * length (now cells) ≤ length (now out) ⌝ }
-    ensures { λ r. ⌜ wrote r (now (out .exit)) ≡ put (shown (said a) (now (cells .entry))) (now (out .entry)) ⌝ }
-{
-    put_answer(a, out);
-    if program::is_refusal(a.number) {
-        return ANSWER_LINE;
-    }
-    put_cells(cells, out);
-    ANSWER_LINE + CELL_LINE * cells.len()
-}
-
 // "Refusals give ff, the line, and zeros."
 fn refuse(number: u8, line: u32, out: &mut [u8]) -> usize
     requires { ⌜ mostPrinted ≤ length (now out) ⌝ }
@@ -193,7 +125,7 @@ fn refuse(number: u8, line: u32, out: &mut [u8]) -> usize
         inputs: 0,
         threads: 0,
     };
-    show(a, &[], out)
+    printing::show(a, &[], out)
 }
 
 // The answer from an accepted table on.
@@ -205,7 +137,7 @@ fn from_table(table: &[u64], choices: &[u8], inputs: &[u32], budget: u32, out: &
     let a = run::run(table, choices, inputs, budget, &mut cells);
     let h = frame::decode(table[0]);
     let c = h.imm as usize;
-    show(a, &cells[..c], out)
+    printing::show(a, &cells[..c], out)
 }
 
 // The answer from the image on.

@@ -2,7 +2,7 @@
 -- each stage stands above the one that hands over to it.
 use Prim.Native.Nat.{ℕ, _+_, _*_}
 use mathlib.Core.List.{List}
-use lib.Dec.{eqb, ltb}
+use lib.Dec.{eqb, ltb, leb}
 use lib.ListN.{length, take, replicate}
 use Rattle.laws.specs.Choice.{if_then_else_}
 use Rattle.laws.specs.Lists.{over}
@@ -12,7 +12,7 @@ use Rattle.image.specs.Limits.{mostCells, mostLines, mostChoices, mostInputs}
 use Rattle.lines.specs.Text.{Outcome as Read, reading}
 use Rattle.kernel.specs.Design.{cells}
 use Rattle.kernel.specs.Machine.{Job}
-use Rattle.kernel.specs.Run.{Outcome as Ran, asked}
+use Rattle.kernel.specs.Run.{Answer, Outcome as Ran, asked}
 use Rattle.run.specs.Code.{jobOf}
 use Rattle.program.specs.JobLines.{afterLine, budgetOf, Numbers, these, malformed, numbersOf}
 use Rattle.program.specs.Printing.{shown, refusal, mostPrinted}
@@ -74,6 +74,10 @@ wrote n l = record { count = n; bytes = l }
 -- a text at the start of a buffer, the rest of it untouched
 abbrev pub put : (text out : List ℕ) → Written
 put text out = wrote (length text) (over text out)
+
+-- an answer and cells shown, in a buffer that holds the lines of both; one that does not is left as it was
+unfoldable pub shownIn : Answer → (cells out : List ℕ) → Written
+shownIn a cells out = if leb (44 + 9 * length cells) (length out) then put (shown a cells) out else wrote 0 out
 
 -- what is printed, in a buffer that holds the longest answer; one that does not is left as it was
 unfoldable pub answered : (job out : List ℕ) → Written

@@ -27,13 +27,16 @@ slice-aggregate-show : tie.Need-slice-aggregate-show
 slice-aggregate-show c = cells-counted _ _ _ (c .before .before .before .before .before .before .before .before .before .before .before .pre .0) (c .before .before .decode .ensures) (search needs)
 
 show-requires : tie.Need-show-requires
-show-requires c κs = cells-room _ (c .before .before .before .before .before .before .run .last .1 .1 .1 .1 .0) _ (c .before .before .before .before .before .before .before .before .before .before .before .before .pre .0) (c .before .before .before .decode .ensures) (search needs) _ (search needs)
+show-requires c κs = search needs
 
 same-length : tie.Need-same-length
 same-length c = search needs
 
 returns : tie.Need-returns
-returns c = search (table-shown, needs)
+returns c =
+    let good = c .before .before .before .before .before .before .before .before .before .before .before .before .before .before .before .pre .0 in
+    let header = c .before .before .before .before .before .before .decode .ensures in
+    table-shown _ _ _ _ _ _ _ _ _ (c .before .before .before .before .before .before .before .before .before .run .ensures) header (cells-room _ _ _ good header (search needs) _ (search needs)) (c .before .before .show .ensures)
 
 pub from-table-spec : {M : Type 1} → statement M
 from-table-spec =

@@ -1,7 +1,7 @@
-use Rattle.job.proofs.Puts.{stop-put}
+use Rattle.printing.proofs.Puts.{counts-put}
 use borrow.Author.Needs.{needs}
-use Rattle.job.proofs.put_stop.Statement.{statement}
-use Rattle.job.proofs.put_stop.Tie as tie
+use Rattle.printing.proofs.put_counts.Statement.{statement}
+use Rattle.printing.proofs.put_counts.Tie as tie
 
 put-field-requires : tie.Need-put-field-requires
 put-field-requires c κs = search needs
@@ -19,10 +19,10 @@ same-length : tie.Need-same-length
 same-length c = search needs
 
 returns : tie.Need-returns
-returns c = stop-put _ _ _ _ _ _ (c .before .before .before .before .before .before .before .before .before .before .before .before .before .before .put-field .ensures) (c .before .before .before .before .before .before .before .before .before .before .put-field2 .ensures) (c .before .before .before .before .before .before .put-field3 .ensures) (c .before .before .put-field4 .ensures)
+returns c = counts-put _ _ _ _ _ _ (c .before .before .before .before .before .before .before .before .before .before .before .before .before .before .put-field .ensures) (c .before .before .before .before .before .before .before .before .before .before .put-field2 .ensures) (c .before .before .before .before .before .before .put-field3 .ensures) (c .before .before .put-field4 .ensures)
 
-pub put-stop-spec : {M : Type 1} → statement M
-put-stop-spec =
+pub put-counts-spec : {M : Type 1} → statement M
+put-counts-spec =
     tie.close
     (tie.spec
     put-field-requires

@@ -4,9 +4,9 @@ use borrow.Author.Needs.{needs}
 use lib.ListN.{length, drop}
 use lib.Seq.{sets}
 use Rattle.program.specs.Printing.{cellLines}
-use Rattle.job.proofs.Puts.{cells-turn, cells-end}
-use Rattle.job.proofs.put_cells.Statement.{statement}
-use Rattle.job.proofs.put_cells.Tie as tie
+use Rattle.printing.proofs.Puts.{cells-turn, cells-end}
+use Rattle.printing.proofs.put_cells.Statement.{statement}
+use Rattle.printing.proofs.put_cells.Tie as tie
 
 abbrev Inv-loop : tie.InvT-loop
 Inv-loop cells out₀ i₀ out i = (i ≤ length cells) × (length out ≡ length out₀) × (sets out (44 + 9 * i) (cellLines (drop i cells)) ≡ sets out₀ 44 (cellLines cells))

@@ -1,7 +1,7 @@
-use Rattle.job.proofs.Puts.{field-put}
+use Rattle.printing.proofs.Puts.{field-put}
 use borrow.Author.Needs.{needs}
-use Rattle.job.proofs.put_field.Statement.{statement}
-use Rattle.job.proofs.put_field.Tie as tie
+use Rattle.printing.proofs.put_field.Statement.{statement}
+use Rattle.printing.proofs.put_field.Tie as tie
 
 write-at-requires : tie.Need-write-at-requires
 write-at-requires c κs = search needs

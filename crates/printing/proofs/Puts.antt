@@ -1,11 +1,12 @@
 -- Laws of the printed text, as the code writes it. Assumes nothing.
-use Prim.Native.Nat.{ℕ, suc, _+_, _*_, _≤_, _<_}
+use Prim.Native.Nat.{ℕ, suc, _+_, _-_, _*_, _/_, _≤_, _<_}
 use mathlib.Core.Path.{_≡_, refl, sym, ap, _∙_}
 use mathlib.Core.Bool.{Bool, true, false}
 use mathlib.Core.List.{List, [], _∷_, _++_, append-nil}
 use native.Mathlib.Omega.{arith}
 use native.Mathlib.Numerals.{add-one}
-use borrow.Author.Tests.{le-leb}
+use borrow.Author.Tests.{le-leb, lt-leb, leb-true, leb-false}
+use lib.Dec.{leb}
 use lib.ListN.{length, getD, set, drop, length-append}
 use lib.Seq.{sets, drop-cons}
 use Rattle.laws.specs.Choice.{between}
@@ -14,7 +15,7 @@ use Rattle.hex.specs.Hex.{hex, written}
 use Rattle.hex.specs.Laws.{length-hex}
 use Rattle.kernel.specs.Run.{Answer}
 use Rattle.program.specs.Printing.{field, stopFields, countFields, answerLine, cellLines, shown}
-use Rattle.program.specs.Whole.{wrote, put}
+use Rattle.program.specs.Whole.{Written, wrote, put, shownIn}
 
 -- how long things are
 length-field : (n x end : ℕ) → length (field n x end) ≡ n + 1
@@ -103,3 +104,35 @@ module _ (a : Answer) (cells l m : List ℕ) (b : Bool) (n : ℕ) (f : 44 + 9 * 
       rw r (put-is (44 + 9 * length cells) o (answerLine a ++ cellLines cells) l k p)
 
 pub ruleset shown-laws = (shown-refused, shown-whole)
+
+-- whether there is room
+pub no-line : (n m : ℕ) → m < 44 → false ≡ leb (44 + 9 * n) m
+no-line n m h = sym (lt-leb (44 + 9 * n) m (omega arith))
+
+pub lines-fit : (n m : ℕ) → 44 ≤ m → leb n ((m - 44) / 9) ≡ leb (44 + 9 * n) m
+lines-fit n m h = by (leb n ((m - 44) / 9)) refl
+  where
+    by : (b : Bool) → leb n ((m - 44) / 9) ≡ b → b ≡ leb (44 + 9 * n) m
+    by true e = sym (le-leb (44 + 9 * n) m (omega (arith, leb-true n ((m - 44) / 9) e)))
+    by false e = sym (lt-leb (44 + 9 * n) m (omega (arith, leb-false n ((m - 44) / 9) e)))
+
+-- what the test for it says
+module _ (n m : ℕ) (b : Bool) (t : b ≡ leb (44 + 9 * n) m) where
+  pub room-there : b ≡ true → 44 + 9 * n ≤ m
+  room-there h = leb-true (44 + 9 * n) m (sym t ∙ h)
+
+module _ (a : Answer) (cells out : List ℕ) (b : Bool) (t : b ≡ leb (44 + 9 * length cells) (length out)) where
+  pub shown-there : (w : Written) → b ≡ true → w ≡ put (shown a cells) out → w ≡ shownIn a cells out
+  unfolding shownIn
+  shown-there w h e = rw (← t, h) e
+
+  pub shown-not : b ≡ false → wrote 0 out ≡ shownIn a cells out
+  unfolding shownIn
+  shown-not h = rw (← t, h)
+
+pub ruleset shown-in-laws = (shown-there, shown-not)
+
+-- and what is shown to those who know that there is room
+pub shown-is : (a : Answer) (cells out : List ℕ) (w : Written) → 44 + 9 * length cells ≤ length out → w ≡ shownIn a cells out → w ≡ put (shown a cells) out
+unfolding shownIn
+shown-is a cells out w h e = rw (le-leb (44 + 9 * length cells) (length out) h) at e

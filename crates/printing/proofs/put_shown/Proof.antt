@@ -1,7 +1,7 @@
-use Rattle.job.proofs.Puts.{shown-laws}
+use Rattle.printing.proofs.Puts.{shown-laws}
 use borrow.Author.Needs.{needs}
-use Rattle.job.proofs.show.Statement.{statement}
-use Rattle.job.proofs.show.Tie as tie
+use Rattle.printing.proofs.put_shown.Statement.{statement}
+use Rattle.printing.proofs.put_shown.Tie as tie
 
 put-answer-requires : tie.Need-put-answer-requires
 put-answer-requires c κs = search needs
@@ -30,8 +30,8 @@ same-length-2 c = search needs
 returns-2 : tie.Need-returns-2
 returns-2 c = search (shown-laws, needs)
 
-pub show-spec : {M : Type 1} → statement M
-show-spec =
+pub put-shown-spec : {M : Type 1} → statement M
+put-shown-spec =
     tie.close
     (tie.spec
     put-answer-requires

@@ -1,7 +1,7 @@
-use Rattle.job.proofs.Puts.{answer-put}
+use Rattle.printing.proofs.Puts.{answer-put}
 use borrow.Author.Needs.{needs}
-use Rattle.job.proofs.put_answer.Statement.{statement}
-use Rattle.job.proofs.put_answer.Tie as tie
+use Rattle.printing.proofs.put_answer.Statement.{statement}
+use Rattle.printing.proofs.put_answer.Tie as tie
 
 put-stop-requires : tie.Need-put-stop-requires
 put-stop-requires c κs = search needs
