@@ -31,7 +31,7 @@ fn tried(line: usize, instruction: u64) -> Verdict {
         0x4000_0000_0000_0000,
     ];
     case::set(&mut table, line, instruction);
-    image::judge(&table)
+    judge::judge(&table)
 }
 
 // The instruction with each of the values in turn laid over the field that begins at this bit.

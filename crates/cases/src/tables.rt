@@ -60,7 +60,7 @@ fn put_rows(rows: &[u8], table: &mut [u64]) -> usize {
 
 fn first_judged(table: &[u64], frames: usize) {
     if frames <= table.len() {
-        case::answer(image::judge(&table[0..frames]));
+        case::answer(judge::judge(&table[0..frames]));
     }
 }
 

@@ -31,7 +31,7 @@ fn told(v: Verdict) -> FishdavitVerdict
 pub extern "C" fn fishdavit_judge(table: &[u64]) -> FishdavitVerdict
     ensures { λ r. ⌜ plain r ≡ judged (now (table .entry)) ⌝ }
 {
-    told(image::judge(table))
+    told(judge::judge(table))
 }
 
 #[no_mangle]

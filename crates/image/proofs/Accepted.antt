@@ -14,9 +14,8 @@ use Rattle.frame.specs.Fault.{instructionFault}
 use Rattle.frame.specs.Laws.{fault-small as instruction-small}
 use Rattle.image.specs.Limits.{mostThreads, mostEvents, mostUpdates, mostCells, mostInstructions, mostLines}
 use Rattle.image.specs.Layout.{frame, counts, kindOf, bodies, len, lengths, first, due, bodyAt}
-use Rattle.image.specs.Judge.{Said, say, headerFits, bodyFits, headerFault, bodyFault, fault, ending, orElse, look, judged}
+use Rattle.image.specs.Judge.{Said, say, headerFits, bodyFits, headerFault, bodyFault, fault, ending, orElse, rest, look, judged}
 use Rattle.image.specs.First.{FirstFault, Faultless, Answers, faulty, short, extra, accepted, Exactly}
-use Rattle.image.specs.Steps.{rest}
 use Rattle.image.proofs.Walk.{fault-header, fault-body, fault-instruction, fault-past, first-next, first-grows, due-above, whole, rest-fine, rest-fault, rest-end, ends-short, ends-extra, ends-done}
 
 -- a test that gave 0 and not a number above it

@@ -1,5 +1,3 @@
-pub mod Frames
 pub mod Walk
 pub mod Accepted
 pub mod Cut
-pub mod Unique

@@ -77,6 +77,10 @@ unfoldable pub look : List ℕ → (i n : ℕ) → Said
 look fs i zero = ending fs
 look fs i (suc n) = orElse (fault fs i) i (look fs (suc i) n)
 
+-- the answer of the lines from line i on: a word for laws and private contracts
+unfoldable pub rest : List ℕ → ℕ → Said
+rest fs i = look fs i (length fs - i)
+
 -- "The judge: 2 to 7, else 0 with the count of frames."
 unfoldable pub judged : List ℕ → Said
 judged fs = look fs 0 (length fs)

@@ -92,7 +92,7 @@ pub fn read(bytes: &[u8], table: &mut [u64]) -> Verdict
     let n = decode_lines(bytes, &mut words);
     let lines = &words[..n];
     fill(
-        settle(image::judge(lines), 17 * n < bytes.len()),
+        settle(judge::judge(lines), 17 * n < bytes.len()),
         lines,
         table,
     )
@@ -123,7 +123,7 @@ fn put_lines(table: &[u64], bytes: &mut [u8])
 pub fn write(table: &[u64], bytes: &mut [u8]) -> Verdict
     ensures { λ r. ⌜ outcome (said r) (now (bytes .exit)) ≡ writing (now (table .entry)) (now (bytes .entry)) ⌝ }
 {
-    let v = image::judge(table);
+    let v = judge::judge(table);
     if v.number() != 0 {
         return v;
     }

@@ -267,7 +267,7 @@ pub fn run(table: &[u64], choices: &[u8], inputs: &[u32], budget: u32, cells: &m
     if cells.len() < Image::CELLS as usize {
         return refusal(8, 0);
     }
-    let v = image::judge(table);
+    let v = judge::judge(table);
     let number = v.number();
     if number == 0 {
         return run_accepted(table, choices, inputs, budget, cells);

@@ -1,6 +1,6 @@
-use Rattle.image.proofs.Frames.{header-laws}
-use Rattle.image.proofs.header_fits.Statement.{statement}
-use Rattle.image.proofs.header_fits.Tie as tie
+use Rattle.judge.proofs.Frames.{header-laws}
+use Rattle.judge.proofs.header_fits.Statement.{statement}
+use Rattle.judge.proofs.header_fits.Tie as tie
 
 returns : tie.Need-returns
 returns c = search header-laws

@@ -1,7 +1,7 @@
-use Rattle.image.proofs.Walk.{judge-laws}
+use Rattle.judge.proofs.Loops.{judge-laws}
 use borrow.Author.Needs.{needs}
-use Rattle.image.proofs.judge.Statement.{statement}
-use Rattle.image.proofs.judge.Tie as tie
+use Rattle.judge.proofs.judge.Statement.{statement}
+use Rattle.judge.proofs.judge.Tie as tie
 
 returns : tie.Need-returns
 returns c = search judge-laws

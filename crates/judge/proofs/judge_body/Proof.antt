@@ -1,14 +1,12 @@
-use native.Mathlib.Omega.{arith}
-use Rattle.image.proofs.Walk.{body-done}
 use Prim.Native.Nat.{_≤_, _-_}
 use mathlib.Core.Path.{_≡_}
 use native.Mathlib.Omega.{arith}
 use lib.ListN.{length}
 use borrow.Author.Needs.{needs}
-use Rattle.image.specs.Steps.{rest}
-use Rattle.image.proofs.Walk.{body-laws}
-use Rattle.image.proofs.judge_body.Statement.{statement}
-use Rattle.image.proofs.judge_body.Tie as tie
+use Rattle.image.specs.Judge.{rest}
+use Rattle.judge.proofs.Loops.{body-laws, body-done}
+use Rattle.judge.proofs.judge_body.Statement.{statement}
+use Rattle.judge.proofs.judge_body.Tie as tie
 
 abbrev Inv-loop : tie.InvT-loop
 Inv-loop table c k n at kind end line₀ line = (at ≤ line) × (line ≤ end) × (line ≤ length table) × (rest table at ≡ rest table line)

@@ -1,6 +1,6 @@
-use Rattle.image.proofs.Frames.{frame-laws}
-use Rattle.image.proofs.body_fits.Statement.{statement}
-use Rattle.image.proofs.body_fits.Tie as tie
+use Rattle.judge.proofs.Frames.{frame-laws}
+use Rattle.judge.proofs.body_fits.Statement.{statement}
+use Rattle.judge.proofs.body_fits.Tie as tie
 
 returns : tie.Need-returns
 returns c = search frame-laws

@@ -1,7 +1,7 @@
-use Rattle.image.proofs.Frames.{kind-laws}
+use Rattle.judge.proofs.Frames.{kind-laws}
 use borrow.Author.Needs.{needs}
-use Rattle.image.proofs.kind_of.Statement.{statement}
-use Rattle.image.proofs.kind_of.Tie as tie
+use Rattle.judge.proofs.kind_of.Statement.{statement}
+use Rattle.judge.proofs.kind_of.Tie as tie
 
 returns : tie.Need-returns
 returns c = search kind-laws

@@ -2,11 +2,11 @@ use Prim.Native.Nat.{_≤_, _+_, _-_}
 use mathlib.Core.Path.{_≡_, refl}
 use lib.ListN.{length}
 use borrow.Author.Needs.{needs}
 use Rattle.image.specs.Layout.{first}
-use Rattle.image.specs.Steps.{rest}
-use Rattle.image.proofs.Walk.{table-laws}
-use Rattle.image.proofs.judge_instructions.Statement.{statement}
-use Rattle.image.proofs.judge_instructions.Tie as tie
+use Rattle.image.specs.Judge.{rest}
+use Rattle.judge.proofs.Loops.{table-laws}
+use Rattle.judge.proofs.judge_instructions.Statement.{statement}
+use Rattle.judge.proofs.judge_instructions.Tie as tie
 
 abbrev Inv-loop : tie.InvT-loop
 Inv-loop table c bodies line₀ k₀ line k =

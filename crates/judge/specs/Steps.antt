@@ -1,18 +1,14 @@
 -- Words for the contracts of the private functions: how far a loop has come. Nothing public speaks of them.
-use Prim.Native.Nat.{ℕ, _+_, _-_, _≤_, _<_}
+use Prim.Native.Nat.{ℕ, _+_, _≤_, _<_}
 use mathlib.Core.Path.{_≡_}
 use mathlib.Core.List.{List}
 use lib.ListN.{length}
 use Rattle.frame.specs.declared.Counts.{Counts}
-use Rattle.image.specs.declared.Checked.{Checked}
-use Rattle.image.specs.declared.Checked.the-variants.{Fine, Wrong}
+use Rattle.judge.specs.declared.Checked.{Checked}
+use Rattle.judge.specs.declared.Checked.the-variants.{Fine, Wrong}
 use Rattle.image.specs.Limits.{mostInstructions}
 use Rattle.image.specs.Layout.{counts, bodies, len, lengths, first}
-use Rattle.image.specs.Judge.{Said, said, look}
-
--- the answer of the lines from line i on
-unfoldable pub rest : List ℕ → ℕ → Said
-rest fs i = look fs i (length fs - i)
+use Rattle.image.specs.Judge.{said, rest}
 
 -- what a body's instructions answer: on to the line past them, or the answer of the whole
 abbrev pub Passed : List ℕ → (at n : ℕ) → Checked → Type 0

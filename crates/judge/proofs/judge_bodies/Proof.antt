@@ -1,14 +1,13 @@
-use Rattle.image.proofs.Walk.{heads-done, heads-rest}
 use Prim.Native.Nat.{_≤_, _+_, _-_}
 use mathlib.Core.Path.{_≡_, refl}
 use lib.ListN.{length}
 use borrow.Author.Needs.{needs}
 use Rattle.image.specs.Limits.{mostInstructions}
 use Rattle.image.specs.Layout.{lengths}
-use Rattle.image.specs.Steps.{rest}
-use Rattle.image.proofs.Walk.{heads-laws}
-use Rattle.image.proofs.judge_bodies.Statement.{statement}
-use Rattle.image.proofs.judge_bodies.Tie as tie
+use Rattle.image.specs.Judge.{rest}
+use Rattle.judge.proofs.Loops.{heads-laws, heads-done, heads-rest}
+use Rattle.judge.proofs.judge_bodies.Statement.{statement}
+use Rattle.judge.proofs.judge_bodies.Tie as tie
 
 abbrev Inv-loop : tie.InvT-loop
 Inv-loop table c bodies total₀ k₀ total k =
