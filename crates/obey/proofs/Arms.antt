@@ -17,7 +17,7 @@ use Rattle.marks.specs.declared.Marks.{Marks}
 use Rattle.dues.specs.Codes.{lastTime, forNothing, pendOf}
 use Rattle.marks.specs.Marks.{waitsOn, waitsTill, askedFor}
 use Rattle.dues.specs.Dues.{countAt, waitsAt, changed, askedCode}
-use Rattle.phases.specs.Phases.{triggered}
+use Rattle.waits.specs.Waits.{triggered}
 use Rattle.turns.specs.declared.Obeyed.the-variants.{Stops, Goes, Waits, Took, Begins}
 use Rattle.turns.specs.declared.Done.{Done}
 use Rattle.shows.specs.Shows.{Lists, lists, Kept, kept}

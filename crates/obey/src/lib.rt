@@ -71,7 +71,7 @@ fn wait_event(b: usize, d: usize, threads: usize, marks: Marks, waiters: &mut [u
     ensures { λ r. ⌜ did (r .came) (kept (r .marks) (lists [] [] (now (waiters .exit)))) [] ≡ did (waitCame threads b) (waitedOn threads b d (kept marks (lists [] [] (now (waiters .entry))))) [] ⌝ }
 {
     if is_thread(b, threads) {
-        return done(Obeyed::Waits, phases::wait_event(marks, waiters, b - 1, d));
+        return done(Obeyed::Waits, waits::wait_event(marks, waiters, b - 1, d));
     }
     done(Obeyed::Goes, marks)
 }
@@ -120,7 +120,7 @@ fn wait_time(
         return done(Obeyed::Stops(23), marks);
     }
     if is_thread(b, threads) {
-        return done(Obeyed::Waits, phases::wait_time(marks, waits, b - 1, q));
+        return done(Obeyed::Waits, waits::wait_time(marks, waits, b - 1, q));
     }
     done(Obeyed::Goes, marks)
 }
@@ -149,7 +149,7 @@ fn notify(
     if is_past(b, stage) {
         return done(Obeyed::Stops(18), marks);
     }
-    done(Obeyed::Goes, phases::trigger(marks, pends, waiters, d))
+    done(Obeyed::Goes, waits::trigger(marks, pends, waiters, d))
 }
 
 // Whether event e pends for nothing, so that a due time for it is one more.
@@ -186,7 +186,7 @@ fn notify_after(
     if is_full(adds_time(marks, pends, d), q, pends, waits) {
         return done(Obeyed::Stops(23), marks);
     }
-    done(Obeyed::Goes, phases::notify_after(marks, pends, d, q))
+    done(Obeyed::Goes, waits::notify_after(marks, pends, d, q))
 }
 
 // Op 64: request update d.

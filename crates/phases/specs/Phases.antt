@@ -4,14 +4,10 @@ use Prim.Native.Nat.{ℕ, zero, suc}
 use mathlib.Core.List.{List}
 use lib.ListN.{getD, set}
 use Rattle.laws.specs.Choice.{if_then_else_}
-use Rattle.sets.specs.Sets.{has, minus, without}
+use Rattle.sets.specs.Sets.{has, minus}
 use Rattle.marks.specs.declared.Marks.{Marks}
 use Rattle.marks.specs.Marks.{withWaiting}
 use Rattle.dues.specs.Dues.{dueIn}
-
--- "Notify at once drops what pends and triggers the event." ws are the threads that wait for each event
-unfoldable pub triggered : (ws : List ℕ) → (e : ℕ) → Marks → Marks
-triggered ws e m = record { waiting = minus (m .waiting) (getD ws e 0); delta = m .delta; suspended = m .suspended; resuming = m .resuming; ended = m .ended; requested = m .requested; pending = without (m .pending) e }
 
 -- All that is due is triggered or freed together ---------------------------------------------------------------
 

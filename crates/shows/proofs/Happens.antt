@@ -21,7 +21,7 @@ use Rattle.marks.specs.declared.Marks.{Marks}
 use Rattle.dues.specs.Codes.{lastTime, forNothing, momentOf, pendOf}
 use Rattle.dues.specs.Dues.{changed, waitsAt, askedCode}
 use Rattle.marks.specs.Marks.{waitsOn, waitsTill, askedFor, suspended, resumed, endedBy, requestedBy, finishedBy}
-use Rattle.phases.specs.Phases.{triggered}
+use Rattle.waits.specs.Waits.{triggered}
 use Rattle.dues.specs.Laws.{pend-low, nothing-pends, same-pend, earlier-time}
 use Rattle.shows.specs.Shows.{Lists, lists, Kept, kept, isOn, Timed, Shows}
 use Rattle.shows.proofs.Parts.{here-or-other, if-in, timed-set, Modes, withWaits, events-change, waits-change, modes-change, requests-change}

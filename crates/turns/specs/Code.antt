@@ -15,7 +15,8 @@ use Rattle.marks.specs.declared.Marks.{Marks}
 use Rattle.dues.specs.Codes.{lastTime, forNothing}
 use Rattle.marks.specs.Marks.{mayRun, anyRuns, firstAsked, notEnded, firstMarks, waitsOn, waitsTill, askedFor, suspended, resumed, endedBy, requestedBy, finishedBy}
 use Rattle.dues.specs.Dues.{timeAt, countAt, askCode, waitsAt, changed, askedCode, overCode, dueIn}
-use Rattle.phases.specs.Phases.{triggered, clearedBy, servedDelta, servedTime}
+use Rattle.waits.specs.Waits.{triggered}
+use Rattle.phases.specs.Phases.{clearedBy, servedDelta, servedTime}
 use Rattle.plain.specs.declared.End.{End}
 use Rattle.plain.specs.declared.End.the-variants.{Ended, Left, Stopped}
 use Rattle.plain.specs.Plain.{Out, runPlain}

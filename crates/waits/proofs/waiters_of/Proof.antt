@@ -1,7 +1,7 @@
 use borrow.Author.Needs.{needs}
 use Rattle.laws.specs.Lists.{stores}
-use Rattle.phases.proofs.waiters_of.Statement.{statement}
-use Rattle.phases.proofs.waiters_of.Tie as tie
+use Rattle.waits.proofs.waiters_of.Statement.{statement}
+use Rattle.waits.proofs.waiters_of.Tie as tie
 
 mul-result : tie.Need-mul-result
 mul-result c = search needs

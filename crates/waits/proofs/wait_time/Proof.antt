@@ -1,13 +1,13 @@
 use borrow.Author.Needs.{needs}
-use Rattle.phases.proofs.Arms.{moment-laws}
-use Rattle.phases.proofs.wait_time.Statement.{statement}
-use Rattle.phases.proofs.wait_time.Tie as tie
+use Rattle.waits.proofs.Arms.{delta-waits, moment-laws}
+use Rattle.waits.proofs.wait_time.Statement.{statement}
+use Rattle.waits.proofs.wait_time.Tie as tie
 
 wait-delta-requires : tie.Need-wait-delta-requires
 wait-delta-requires c κs = search needs
 
 returns : tie.Need-returns
-returns c = search (moment-laws, needs)
+returns c = (delta-waits _ _ _ _ (search needs) (search needs), search (moment-laws, needs))
 
 put-requires : tie.Need-put-requires
 put-requires c κs = search needs

@@ -1,7 +1,7 @@
 use borrow.Author.Needs.{needs}
-use Rattle.phases.proofs.Arms.{served-laws}
-use Rattle.phases.proofs.trigger.Statement.{statement}
-use Rattle.phases.proofs.trigger.Tie as tie
+use Rattle.waits.proofs.Arms.{waiter-laws}
+use Rattle.waits.proofs.trigger.Statement.{statement}
+use Rattle.waits.proofs.trigger.Tie as tie
 
 put-requires : tie.Need-put-requires
 put-requires c κs = search needs
@@ -19,7 +19,7 @@ same-length-2 : tie.Need-same-length-2
 same-length-2 c = search needs
 
 returns : tie.Need-returns
-returns c = (search served-laws, (search needs, search needs))
+returns c = (search waiter-laws, (search needs, search needs))
 
 pub trigger-spec : {M : Type 1} → statement M
 trigger-spec =

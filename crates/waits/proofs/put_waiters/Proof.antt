@@ -1,7 +1,7 @@
 use borrow.Author.Needs.{needs}
 use Rattle.laws.specs.Lists.{stores}
-use Rattle.phases.proofs.put_waiters.Statement.{statement}
-use Rattle.phases.proofs.put_waiters.Tie as tie
+use Rattle.waits.proofs.put_waiters.Statement.{statement}
+use Rattle.waits.proofs.put_waiters.Tie as tie
 
 mul-waiters : tie.Need-mul-waiters
 mul-waiters c = search needs

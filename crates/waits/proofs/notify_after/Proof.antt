@@ -5,10 +5,10 @@ use denote.Ref.{now}
 use Rattle.sets.specs.Sets.{has}
 use Rattle.dues.specs.Dues.{changed, askedCode}
 use Rattle.laws.specs.Lists.{set-past}
-use Rattle.phases.proofs.Arms.{moment-laws, asked-here}
+use Rattle.waits.proofs.Arms.{moment-laws, asked-here}
 use borrow.Author.Needs.{needs}
-use Rattle.phases.proofs.notify_after.Statement.{statement}
-use Rattle.phases.proofs.notify_after.Tie as tie
+use Rattle.waits.proofs.notify_after.Statement.{statement}
+use Rattle.waits.proofs.notify_after.Tie as tie
 
 has-requires : tie.Need-has-requires
 has-requires c κs = search needs
