@@ -1,11 +1,11 @@
 // The C interface: judge, read, write and run on numbers and slices. include/fishdavit.h declares it.
+use answer::Answer;
 use image::Verdict;
-use run::Answer;
 ghost use mathlib.Core.Path.{_≡_};
 ghost use Rattle.image.specs.Judge.{said, judged};
 ghost use Rattle.lines.specs.Text.{outcome, reading, writing};
 ghost use Rattle.kernel.specs.Run.{asked};
-ghost use Rattle.run.specs.Code.{said as ranTo};
+ghost use Rattle.answer.specs.Answer.{said as ranTo};
 ghost use Rattle.fishdavit.specs.Plain.{plain, answer, Small};
 
 // Document 01's number, and the line of the first fault or the count that was done.

@@ -16,7 +16,7 @@ use Rattle.image.specs.Layout.{counts}
 use Rattle.image.specs.Judge.{judged}
 use Rattle.lines.specs.Text.{Outcome, reading}
 use Rattle.kernel.specs.Run.{Answer, asked}
-use Rattle.run.specs.Code.{jobOf}
+use Rattle.kernel.specs.Machine.{jobOf}
 use Rattle.run.proofs.Ends.{few-counts}
 use Rattle.program.specs.JobLines.{afterLine, budgetOf, Numbers, these, malformed, numbersOf}
 use Rattle.program.specs.Printing.{answerLine, cellLines, shown, refusal, mostPrinted}

@@ -23,7 +23,7 @@ use Rattle.lines.specs.Text.{frames, more, settled, Outcome as Read, outcome, r
 use Rattle.lines.proofs.RoundTrip.{settled-good}
 use Rattle.lines.proofs.Few.{read-few}
 use Rattle.kernel.specs.Run.{Answer, Outcome as Ran, asked}
-use Rattle.run.specs.Code.{jobOf}
+use Rattle.kernel.specs.Machine.{jobOf}
 use Rattle.run.proofs.Ends.{few-counts}
 use Rattle.job.specs.declared.Listed.{Listed}
 use Rattle.job.specs.declared.Listed.the-variants.{Count, Broken}

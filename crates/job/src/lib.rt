@@ -1,13 +1,13 @@
 // The program's work whole: from the bytes of a job to the bytes of its answer.
+use answer::Answer;
 use hex::Number;
 use image::Image;
-use run::Answer;
 ghost use mathlib.Core.Path.{_≡_};
 ghost use Prim.Native.Nat.{_+_, _*_, _≤_};
 ghost use lib.ListN.{length};
 ghost use Rattle.image.specs.Limits.{mostChoices, mostInputs};
 ghost use Rattle.image.specs.Judge.{judged};
-ghost use Rattle.run.specs.Code.{jobOf};
+ghost use Rattle.kernel.specs.Machine.{jobOf};
 ghost use Rattle.program.specs.JobLines.{lineLength, budgetOf, numbersFrom, numbersOf};
 ghost use Rattle.program.specs.Printing.{refusal, mostPrinted};
 ghost use Rattle.program.specs.Whole.{fromTable, fromImage, fromInputs, fromChoices, printed, wrote, put, answered};

@@ -18,6 +18,10 @@ pub record Job : Type 0 where
   pub inputs : List ℕ
   pub budget : ℕ
 
+-- what is handed in
+abbrev pub jobOf : (table choices inputs : List ℕ) → (budget : ℕ) → Job
+jobOf t c i b = record { table = t; choices = c; inputs = i; budget = b }
+
 -- a body runs; one of the phases; the turn to evaluation or time; or the run is over, with number, body and place
 pub data Control : Type 0 where
   running : Body → Control

@@ -1,11 +1,11 @@
 // The answer of a run as text.
-use run::Answer;
+use answer::Answer;
 ghost use mathlib.Core.Path.{_≡_};
 ghost use Prim.Native.Nat.{_+_, _*_, _≤_};
 ghost use lib.Dec.{leb};
 ghost use lib.ListN.{length};
 ghost use lib.Seq.{sets};
-ghost use Rattle.run.specs.Code.{said};
+ghost use Rattle.answer.specs.Answer.{said};
 ghost use Rattle.program.specs.Printing.{field, stopFields, countFields, answerLine, cellLines, shown};
 ghost use Rattle.program.specs.Whole.{wrote, put, shownIn};
 

@@ -11,9 +11,8 @@ use Rattle.hex.specs.declared.Number.the-variants.{Is, Malformed}
 use Rattle.image.specs.Limits.{mostCells, mostLines, mostChoices, mostInputs}
 use Rattle.lines.specs.Text.{Outcome as Read, reading}
 use Rattle.kernel.specs.Design.{cells}
-use Rattle.kernel.specs.Machine.{Job}
+use Rattle.kernel.specs.Machine.{Job, jobOf}
 use Rattle.kernel.specs.Run.{Answer, Outcome as Ran, asked}
-use Rattle.run.specs.Code.{jobOf}
 use Rattle.program.specs.JobLines.{afterLine, budgetOf, Numbers, these, malformed, numbersOf}
 use Rattle.program.specs.Printing.{shown, refusal, mostPrinted}
 

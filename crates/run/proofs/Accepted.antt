@@ -9,13 +9,12 @@ use Rattle.frame.specs.declared.Frame.{Frame}
 use Rattle.image.specs.Layout.{counts, bodies}
 use Rattle.image.specs.Judge.{judged}
 use Rattle.kernel.specs.Design.{cells}
-use Rattle.kernel.specs.Machine.{Job}
+use Rattle.kernel.specs.Machine.{Job, jobOf}
 use Rattle.kernel.specs.Run.{Outcome, runs}
 use Rattle.turns.specs.Stands.{Firsts}
 use Rattle.turns.specs.Code.{turns, told, started, firstLists, zeroed}
 use Rattle.turns.proofs.Turns.{Given}
 use Rattle.turns.proofs.Ends.{told-is, first-ran}
-use Rattle.run.specs.Code.{jobOf}
 use Rattle.run.proofs.Ends.{header}
 
 zeroed-is : (n : ℕ) (cs : List ℕ) → n ≤ length cs → zeroed n cs ≡ replicate n 0 ++ drop n cs

@@ -1,7 +1,6 @@
 -- From its first state to its end, each law as an arm of the code has it; the lines of the bodies, and what is asked. Assumes nothing.
 use Prim.Native.Nat.{ℕ, zero, suc, _+_, _-_, _*_, _%_, _<_, _≤_}
 use mathlib.Core.Path.{_≡_, refl, sym, ap, _∙_}
-use mathlib.Core.Bool.{false}
 use mathlib.Core.List.{List, [], _∷_}
 use native.Mathlib.Omega.{arith}
 use native.Mathlib.Numerals.{add-one}
@@ -21,12 +20,10 @@ use Rattle.plain.specs.declared.Ran.{Ran}
 use Rattle.plain.specs.Plain.{Out, runPlain}
 use Rattle.dues.specs.Codes.{forNothing}
 use Rattle.dues.specs.Laws as P
-use Rattle.turns.specs.declared.Control.{Control}
-use Rattle.turns.specs.declared.Control.the-variants.{Runs, UpdatePhase, DeltaPhase, Turn, Evaluation, TimePhase, Over}
 use Rattle.turns.specs.declared.Now.{Now}
 use Rattle.shows.specs.Shows.{Lists, lists}
 use Rattle.turns.specs.Stands.{Firsts}
-use Rattle.turns.specs.Code.{code, turns, isOver, answerAs, answerFrom, answered, told, refusedAt, firstNow, firstRan, started, firstLists, zeroed}
+use Rattle.turns.specs.Code.{code, turns, answered, told, refusedAt, firstNow, firstRan, started, firstLists, zeroed}
 
 -- The cells at first -----------------------------------------------------------------------------------------------
 
@@ -82,28 +79,6 @@ module _ (t : List ℕ) (b k : ℕ) (good : judged t .number ≡ 0) (all : b ≡
   unfolding due
   line-fits m at f g e l =
       omega (arith, line-next t k at f g e, accepted-has t good .all-due, first-grows t (k + 1) (bodies t) (omega arith))
-
--- The answer's arms ------------------------------------------------------------------------------------------------
-
-module _ (budget : ℕ) (n : Now) (a : Told) where
-  pub answered-over : (k b p : ℕ) → n .control ≡ Over k b p → a ≡ answerAs budget n k b p → a ≡ answered budget n
-  unfolding answered
-  answered-over k b p e q = rw e q
-
-  pub answered-before : (x : Control) → n .control ≡ x → isOver x ≡ false → a ≡ answerAs budget n 0 0 0 → a ≡ answered budget n
-  unfolding answered
-  answered-before x e o q = q ∙ by x o ∙ ap (answerFrom budget n) (sym e)
-    where
-      by : (x : Control) → isOver x ≡ false → answerAs budget n 0 0 0 ≡ answerFrom budget n x
-      by (Runs b) o = refl
-      by UpdatePhase o = refl
-      by DeltaPhase o = refl
-      by Turn o = refl
-      by Evaluation o = refl
-      by TimePhase o = refl
-      by (Over k b p) o =
-          let z : _≡_ {A = ℕ} 0 1 = cc in
-          absurd (omega arith)
 
 -- main's first plain instructions
 pub first-ran-is : (t fs ps qs cs ds : List ℕ) (threads budget base a len : ℕ) (r : Ran) (n : Now) → base ≡ getD fs 0 0 → a ≡ getD fs 1 0 → len ≡ a - base → record { ran = r; cells = ds } ≡ runPlain budget t base len 0 cs → qs ≡ set ps 0 (r .place) → n ≡ firstNow threads (r .left)

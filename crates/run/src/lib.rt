@@ -1,4 +1,5 @@
 // One run of a design under given choices, inputs and budget.
+use answer::Answer;
 use image::Image;
 use turns::Control;
 use turns::Now;
@@ -7,10 +8,11 @@ ghost use Prim.Native.Nat.{_+_, _-_, _*_, _≤_, _<_};
 ghost use lib.ListN.{length, set, replicate};
 ghost use Rattle.shows.specs.Shows.{lists};
 ghost use Rattle.turns.specs.Stands.{Firsts};
-ghost use Rattle.turns.specs.Code.{turns, firstNow, firstRan, started, firstLists, zeroed, refusedAt, answerAs, answered, told};
-ghost use Rattle.run.specs.Code.{jobOf, said};
+ghost use Rattle.turns.specs.Code.{turns, firstNow, firstRan, started, firstLists, zeroed, refusedAt, told};
+ghost use Rattle.answer.specs.Answer.{said};
 ghost use Rattle.image.specs.Layout.{bodies as bodiesOf};
 ghost use Rattle.image.specs.Judge.{judged};
+ghost use Rattle.kernel.specs.Machine.{jobOf};
 ghost use Rattle.kernel.specs.Run.{runs, asked as askedFor};
 
 // The lines of the bodies' first instructions, and the line past the last.
@@ -54,60 +56,6 @@ fn first_now(threads: usize, budget: u32) -> Now
         chosen: 0,
         taken: 0,
         marks: marks,
-    }
-}
-
-// What of the budget is spent.
-fn spent(budget: u32, left: u32) -> u32
-    ensures { λ r. ⌜ r ≡ budget - left ⌝ }
-{
-    if budget < left {
-        return 0;
-    }
-    budget - left
-}
-
-// What a run answers: its number, the body and place of the stopping instruction, the time, the instructions completed, the choices
-// accepted, the inputs taken, and the threads not ended, thread 0 as bit 0.
-pub struct Answer {
-    pub number: u32,
-    pub body: u32,
-    pub place: u32,
-    pub time: u32,
-    pub instructions: u32,
-    pub choices: u32,
-    pub inputs: u32,
-    pub threads: u32,
-}
-
-fn answer_as(n: Now, budget: u32, k: u8, b: usize, p: usize) -> Answer
-    ensures { λ r. ⌜ said r ≡ answerAs budget n k b p ⌝ }
-{
-    let marks = n.marks;
-    Answer {
-        number: k as u32,
-        body: (b % 0x1_0000_0000) as u32,
-        place: (p % 0x1_0000_0000) as u32,
-        time: n.time,
-        instructions: spent(budget, n.left),
-        choices: (n.chosen % 0x1_0000_0000) as u32,
-        inputs: (n.taken % 0x1_0000_0000) as u32,
-        threads: marks::not_ended(marks),
-    }
-}
-
-fn answer_of(n: Now, budget: u32) -> Answer
-    ensures { λ r. ⌜ said r ≡ answered budget n ⌝ }
-{
-    let c = n.control;
-    match c {
-        Control::Over(k, b, p) => answer_as(n, budget, k, b, p),
-        Control::Runs(_) => answer_as(n, budget, 0, 0, 0),
-        Control::UpdatePhase => answer_as(n, budget, 0, 0, 0),
-        Control::DeltaPhase => answer_as(n, budget, 0, 0, 0),
-        Control::Turn => answer_as(n, budget, 0, 0, 0),
-        Control::Evaluation => answer_as(n, budget, 0, 0, 0),
-        Control::TimePhase => answer_as(n, budget, 0, 0, 0),
     }
 }
 
@@ -170,7 +118,7 @@ fn run_from(
         places,
         cells,
     );
-    answer_of(n, budget)
+    answer::answer_of(n, budget)
 }
 
 // The run on a design of so many threads, events and updates, the lines of whose bodies are known and whose cells hold 0.

@@ -1,7 +1,7 @@
-use Rattle.run.proofs.Ends.{answered-over, answered-before}
+use Rattle.answer.proofs.Arms.{answered-over, answered-before}
 use borrow.Author.Needs.{needs}
-use Rattle.run.proofs.answer_of.Statement.{statement}
-use Rattle.run.proofs.answer_of.Tie as tie
+use Rattle.answer.proofs.answer_of.Statement.{statement}
+use Rattle.answer.proofs.answer_of.Tie as tie
 
 enum-known-c : tie.Need-enum-known-c
 enum-known-c c = search needs

@@ -1,6 +1,6 @@
 use borrow.Author.Needs.{needs}
-use Rattle.run.proofs.answer_as.Statement.{statement}
-use Rattle.run.proofs.answer_as.Tie as tie
+use Rattle.answer.proofs.answer_as.Statement.{statement}
+use Rattle.answer.proofs.answer_as.Tie as tie
 
 cast-t9 : tie.Need-cast-t9
 cast-t9 c = search needs
