@@ -9,8 +9,8 @@ settle-requires c κs = search needs
 enum-known-c : tie.Need-enum-known-c
 enum-known-c c = search needs
 
-run-body-requires : tie.Need-run-body-requires
-run-body-requires c κs = search needs
+run-requires : tie.Need-run-requires
+run-requires c κs = search needs
 
 enum-told : tie.Need-enum-told
 enum-told c = search needs
@@ -96,7 +96,7 @@ turn-once-spec =
     (tie.spec
     settle-requires
     enum-known-c
-    run-body-requires
+    run-requires
     enum-told
     update-phase-requires
     enum-told-2

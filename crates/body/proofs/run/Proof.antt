@@ -1,8 +1,8 @@
-use Rattle.machine.proofs.Arms.{left-there}
+use Rattle.body.proofs.Arms.{left-there}
 use Rattle.turns.specs.Code.{bodyRun}
 use borrow.Author.Needs.{needs}
-use Rattle.machine.proofs.run_body.Statement.{statement}
-use Rattle.machine.proofs.run_body.Tie as tie
+use Rattle.body.proofs.run.Statement.{statement}
+use Rattle.body.proofs.run.Tie as tie
 
 first-at-requires : tie.Need-first-at-requires
 first-at-requires c κs = search needs
@@ -35,8 +35,8 @@ returns : tie.Need-returns
 unfolding bodyRun
 returns c = rw (← c .before .before .before .before .before .before .before .before .before .before .before .before .before .before .before .before .before .before .before .before .before .before .before .before .first-at .ensures, ← c .before .before .before .before .before .before .before .before .before .before .before .before .before .before .before .before .before .before .before .before .before .run-from-place .ensures .0, ← c .before .before .before .before .before .before .before .before .before .before .before .before .before .before .before .before .before .before .before .before .before .run-from-place .ensures .1, ← c .before .before .before .before .before .before .before .before .before .before .before .before .before .before .before .before .with-left .ensures) (c .before .before .before .before .before .before .before .before .before .before .after-plain .ensures)
 
-pub run-body-spec : {M : Type 1} → statement M
-run-body-spec =
+pub run-spec : {M : Type 1} → statement M
+run-spec =
     tie.close
     (tie.spec
     first-at-requires

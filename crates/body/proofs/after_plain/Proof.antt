@@ -1,7 +1,7 @@
-use Rattle.machine.proofs.Arms.{ran-ended, ran-stopped, ran-left, fits-left, line-left}
+use Rattle.body.proofs.Arms.{ran-ended, ran-stopped, ran-left, fits-left, line-left}
 use borrow.Author.Needs.{needs}
-use Rattle.machine.proofs.after_plain.Statement.{statement}
-use Rattle.machine.proofs.after_plain.Tie as tie
+use Rattle.body.proofs.after_plain.Statement.{statement}
+use Rattle.body.proofs.after_plain.Tie as tie
 
 enum-told : tie.Need-enum-told
 enum-told c = search needs

@@ -1,7 +1,7 @@
 use Rattle.obey.proofs.Arms.{set-past}
 use borrow.Author.Needs.{needs}
-use Rattle.machine.proofs.put_place.Statement.{statement}
-use Rattle.machine.proofs.put_place.Tie as tie
+use Rattle.body.proofs.put_place.Statement.{statement}
+use Rattle.body.proofs.put_place.Tie as tie
 
 mul-places : tie.Need-mul-places
 mul-places c = search needs

@@ -1,7 +1,7 @@
-use Rattle.machine.proofs.Arms.{completed-stop, completed-on, completed-wait, completed-took, completed-start, placed-stop, placed-on, placed-wait, placed-took, placed-start}
+use Rattle.body.proofs.Arms.{completed-stop, completed-on, completed-wait, completed-took, completed-start, placed-stop, placed-on, placed-wait, placed-took, placed-start}
 use borrow.Author.Needs.{needs}
-use Rattle.machine.proofs.complete.Statement.{statement}
-use Rattle.machine.proofs.complete.Tie as tie
+use Rattle.body.proofs.complete.Statement.{statement}
+use Rattle.body.proofs.complete.Tie as tie
 
 enum-known-came : tie.Need-enum-known-came
 enum-known-came c = search needs

@@ -1,7 +1,7 @@
-use Rattle.machine.proofs.Arms.{obeyed-completed}
+use Rattle.body.proofs.Arms.{obeyed-completed}
 use borrow.Author.Needs.{needs}
-use Rattle.machine.proofs.obey_at.Statement.{statement}
-use Rattle.machine.proofs.obey_at.Tie as tie
+use Rattle.body.proofs.obey_at.Statement.{statement}
+use Rattle.body.proofs.obey_at.Tie as tie
 
 mul-decode : tie.Need-mul-decode
 mul-decode c = search needs

@@ -1,4 +1,4 @@
--- No second answer fits the contract of the machine's turns. Assumes nothing.
+-- No second answer fits the contract of a body's turn, nor of the machine's turns. Assumes nothing.
 use Prim.Native.Nat.{ℕ}
 use mathlib.Core.Path.{_≡_, sym, ap, _∙_}
 use mathlib.Core.List.{List}

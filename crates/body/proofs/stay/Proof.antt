@@ -1,7 +1,7 @@
-use Rattle.machine.proofs.Arms.{stays-main, stays-update, stays-runnable, stays-back}
+use Rattle.body.proofs.Arms.{stays-main, stays-update, stays-runnable, stays-back}
 use borrow.Author.Needs.{needs}
-use Rattle.machine.proofs.stay.Statement.{statement}
-use Rattle.machine.proofs.stay.Tie as tie
+use Rattle.body.proofs.stay.Statement.{statement}
+use Rattle.body.proofs.stay.Tie as tie
 
 returns : tie.Need-returns
 returns c = search (stays-main, needs)

@@ -1,7 +1,7 @@
-use Rattle.machine.proofs.Arms.{next-some, next-none}
+use Rattle.body.proofs.Arms.{next-some, next-none}
 use borrow.Author.Needs.{needs}
-use Rattle.machine.proofs.next_input.Statement.{statement}
-use Rattle.machine.proofs.next_input.Tie as tie
+use Rattle.body.proofs.next_input.Statement.{statement}
+use Rattle.body.proofs.next_input.Tie as tie
 
 add-result : tie.Need-add-result
 add-result c = search needs

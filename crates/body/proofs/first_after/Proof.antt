@@ -1,7 +1,7 @@
-use Rattle.machine.proofs.Arms.{first-past}
+use Rattle.body.proofs.Arms.{first-past}
 use borrow.Author.Needs.{needs}
-use Rattle.machine.proofs.first_after.Statement.{statement}
-use Rattle.machine.proofs.first_after.Tie as tie
+use Rattle.body.proofs.first_after.Statement.{statement}
+use Rattle.body.proofs.first_after.Tie as tie
 
 add-first-at : tie.Need-add-first-at
 add-first-at c = search needs

@@ -1,7 +1,7 @@
 use Rattle.obey.proofs.Arms.{cell-past}
 use borrow.Author.Needs.{needs}
-use Rattle.machine.proofs.first_at.Statement.{statement}
-use Rattle.machine.proofs.first_at.Tie as tie
+use Rattle.body.proofs.first_at.Statement.{statement}
+use Rattle.body.proofs.first_at.Tie as tie
 
 mul-result : tie.Need-mul-result
 mul-result c = search needs

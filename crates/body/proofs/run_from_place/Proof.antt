@@ -1,6 +1,6 @@
 use borrow.Author.Needs.{needs}
-use Rattle.machine.proofs.run_from_place.Statement.{statement}
-use Rattle.machine.proofs.run_from_place.Tie as tie
+use Rattle.body.proofs.run_from_place.Statement.{statement}
+use Rattle.body.proofs.run_from_place.Tie as tie
 
 first-after-requires : tie.Need-first-after-requires
 first-after-requires c κs = search needs
