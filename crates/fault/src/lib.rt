@@ -56,7 +56,7 @@ pub fn fault_of(c: Counts, kind: Kind, n: u32, f: Frame) -> Fault
     ensures { λ r. ⌜ faultNumber r ≡ instructionFault c kind n f ⌝ }
 {
     let op = f.op;
-    let Known::Op(u) = frame::uses_of(op) else {
+    let Known::Op(u) = ops::uses_of(op) else {
         return Fault::Op;
     };
     let bodies = u.bodies;

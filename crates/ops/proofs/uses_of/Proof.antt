@@ -6,14 +6,14 @@ use mathlib.Core.List.{List, [], _∷_}
 use native.Mathlib.Omega.{arith}
 use lib.Dec.{T}
 use Rattle.laws.specs.Span.{Arm, in-span, the-rest, Outside, Rest, AllTold}
 use Rattle.frame.specs.declared.Known.{Known}
 use Rattle.frame.specs.declared.Known.the-variants.{Unknown, Op}
 use Rattle.frame.specs.declared.Use.the-variants.{Unused, Cell, Length, Region}
 use Rattle.frame.specs.declared.Bodies.the-variants.{All}
 use Rattle.frame.specs.Ops.{usesOf}
 use borrow.Author.Needs.{needs}
-use Rattle.frame.proofs.uses_of.Statement.{statement}
-use Rattle.frame.proofs.uses_of.Tie as tie
+use Rattle.ops.proofs.uses_of.Statement.{statement}
+use Rattle.ops.proofs.uses_of.Tie as tie
 
 -- the single numbers and the ranges of the match
 abbrev singles : List Arm
