@@ -6,7 +6,7 @@ use image::Verdict;
 // The smallest image, which is a header with one cell and a main of length 0, and after its 34 bytes one line more.
 fn small_text() -> [u8; 51] {
     let mut text = [b'0'; 51];
-    lines::write(&[0xa000_0000_0000_0001, 0xa100_0000_0000_0000], &mut text);
+    writer::write(&[0xa000_0000_0000_0001, 0xa100_0000_0000_0000], &mut text);
     case::set_byte(&mut text, 50, 0x0a);
     text
 }
@@ -14,9 +14,9 @@ fn small_text() -> [u8; 51] {
 fn first_read(text: &[u8], bytes: usize) -> Verdict {
     let mut table = [0u64; Image::LINES];
     if bytes <= text.len() {
-        return lines::read(&text[0..bytes], &mut table);
+        return reader::read(&text[0..bytes], &mut table);
     }
-    lines::read(text, &mut table)
+    reader::read(text, &mut table)
 }
 
 fn retyped(at: usize, byte: u8) -> Verdict {

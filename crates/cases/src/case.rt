@@ -76,7 +76,7 @@ fn largest() -> [u64; Image::LINES + 1] {
 pub fn read_to(label: &[u8], text: &[u8], words: usize) {
     let mut table = [0u64; Image::LINES + 1];
     if words <= table.len() {
-        say(label, lines::read(text, &mut table[0..words]));
+        say(label, reader::read(text, &mut table[0..words]));
     }
 }
 
@@ -92,7 +92,7 @@ fn first_read_to(label: &[u8], text: &[u8], bytes: usize, words: usize) {
 
 fn write_first(table: &[u64], frames: usize, text: &mut [u8]) {
     if frames <= table.len() {
-        lines::write(&table[0..frames], text);
+        writer::write(&table[0..frames], text);
     }
 }
 
@@ -132,7 +132,7 @@ pub fn changed_byte(label: &[u8], at: usize, byte: u8) {
 pub fn written_to(label: &[u8], table: &[u64], bytes: usize) {
     let mut text = [0u8; 17 * Image::LINES];
     if bytes <= text.len() {
-        say(label, lines::write(table, &mut text[0..bytes]));
+        say(label, writer::write(table, &mut text[0..bytes]));
     }
 }
 

@@ -38,14 +38,14 @@ pub extern "C" fn fishdavit_judge(table: &[u64]) -> FishdavitVerdict
 pub extern "C" fn fishdavit_read(bytes: &[u8], table: &mut [u64]) -> FishdavitVerdict
     ensures { λ r. ⌜ outcome (plain r) (now (table .exit)) ≡ reading (now (bytes .entry)) (now (table .entry)) ⌝ }
 {
-    told(lines::read(bytes, table))
+    told(reader::read(bytes, table))
 }
 
 #[no_mangle]
 pub extern "C" fn fishdavit_write(table: &[u64], bytes: &mut [u8]) -> FishdavitVerdict
     ensures { λ r. ⌜ outcome (plain r) (now (bytes .exit)) ≡ writing (now (table .entry)) (now (bytes .entry)) ⌝ }
 {
-    told(lines::write(table, bytes))
+    told(writer::write(table, bytes))
 }
 
 // What a run answers.

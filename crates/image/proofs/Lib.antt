@@ -1,3 +1,4 @@
 pub mod Walk
 pub mod Accepted
 pub mod Cut
+pub mod Unique

@@ -146,7 +146,7 @@ fn from_image(text: &[u8], choices: &[u8], inputs: &[u32], budget: u32, out: &mu
     ensures { λ r. ⌜ wrote r (now (out .exit)) ≡ put (fromImage budget (now (choices .entry)) (now (inputs .entry)) (now (text .entry))) (now (out .entry)) ⌝ }
 {
     let mut table = [0u64; Image::LINES];
-    let v = lines::read(text, &mut table);
+    let v = reader::read(text, &mut table);
     let number = v.number();
     let line = v.line();
     if number == 0 {

@@ -2,6 +2,5 @@ pub mod Lines
 pub mod Texts
 pub mod RoundTrip
 pub mod Cap
-pub mod Whole
 pub mod Unique
 pub mod Few

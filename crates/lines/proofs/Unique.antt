@@ -4,7 +4,7 @@ use mathlib.Core.List.{List}
 use Prim.Native.Nat.{ℕ}
 use Rattle.image.specs.declared.Verdict.{Verdict}
 use Rattle.image.specs.Judge.{said}
-use Rattle.judge.proofs.Unique.{one-verdict}
+use Rattle.image.proofs.Unique.{one-verdict}
 use Rattle.lines.specs.Text.{Outcome, outcome}
 
 pub one-outcome : (o : Outcome) (a b : Verdict) (x y : List ℕ) → outcome (said a) x ≡ o → outcome (said b) y ≡ o → (a ≡ b) × (x ≡ y)

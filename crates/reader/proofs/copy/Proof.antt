@@ -4,8 +4,8 @@ use borrow.Author.Needs.{needs}
 use lib.ListN.{length, drop, length-set}
 use lib.Seq.{sets}
 use Rattle.laws.specs.Lists.{copy-turn, copy-end}
-use Rattle.lines.proofs.copy.Statement.{statement}
-use Rattle.lines.proofs.copy.Tie as tie
+use Rattle.reader.proofs.copy.Statement.{statement}
+use Rattle.reader.proofs.copy.Tie as tie
 
 abbrev Inv-loop : tie.InvT-loop
 Inv-loop from to₀ i₀ to i =

@@ -3,10 +3,10 @@ use mathlib.Core.Path.{_≡_, refl}
 use borrow.Author.Needs.{needs}
 use lib.ListN.{length, drop}
 use lib.Seq.{sets}
 use Rattle.lines.specs.Text.{text}
-use Rattle.lines.proofs.Whole.{text-turn, text-end}
-use Rattle.lines.proofs.put_lines.Statement.{statement}
-use Rattle.lines.proofs.put_lines.Tie as tie
+use Rattle.writer.proofs.Whole.{text-turn, text-end}
+use Rattle.writer.proofs.put_lines.Statement.{statement}
+use Rattle.writer.proofs.put_lines.Tie as tie
 
 abbrev Inv-loop : tie.InvT-loop
 Inv-loop table bytes₀ i₀ bytes i =

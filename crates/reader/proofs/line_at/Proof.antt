@@ -1,7 +1,7 @@
 use Rattle.lines.proofs.Lines.{line-laws}
 use borrow.Author.Needs.{needs}
-use Rattle.lines.proofs.line_at.Statement.{statement}
-use Rattle.lines.proofs.line_at.Tie as tie
+use Rattle.reader.proofs.line_at.Statement.{statement}
+use Rattle.reader.proofs.line_at.Tie as tie
 
 sub-if1 : tie.Need-sub-if1
 sub-if1 c = search needs

@@ -1,7 +1,7 @@
-use Rattle.lines.proofs.Whole.{read-laws, part-fits, part-counted}
+use Rattle.reader.proofs.Whole.{read-laws, part-fits, part-counted}
 use borrow.Author.Needs.{needs}
-use Rattle.lines.proofs.read.Statement.{statement}
-use Rattle.lines.proofs.read.Tie as tie
+use Rattle.reader.proofs.read.Statement.{statement}
+use Rattle.reader.proofs.read.Tie as tie
 
 returns : tie.Need-returns
 returns c = search read-laws

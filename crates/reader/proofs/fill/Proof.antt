@@ -1,7 +1,7 @@
-use Rattle.lines.proofs.Whole.{fill-laws}
+use Rattle.reader.proofs.Whole.{fill-laws}
 use borrow.Author.Needs.{needs}
-use Rattle.lines.proofs.fill.Statement.{statement}
-use Rattle.lines.proofs.fill.Tie as tie
+use Rattle.reader.proofs.fill.Statement.{statement}
+use Rattle.reader.proofs.fill.Tie as tie
 
 number-requires : tie.Need-number-requires
 number-requires c κs = search needs

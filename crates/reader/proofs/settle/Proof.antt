@@ -1,7 +1,7 @@
-use Rattle.lines.proofs.Lines.{settle-laws}
+use Rattle.reader.proofs.Loops.{settle-laws}
 use borrow.Author.Needs.{needs}
-use Rattle.lines.proofs.settle.Statement.{statement}
-use Rattle.lines.proofs.settle.Tie as tie
+use Rattle.reader.proofs.settle.Statement.{statement}
+use Rattle.reader.proofs.settle.Tie as tie
 
 number-requires : tie.Need-number-requires
 number-requires c κs = search needs

@@ -5,10 +5,11 @@ use mathlib.Core.List.{_++_}
 use native.Mathlib.Omega.{arith}
 use borrow.Author.Needs.{needs}
 use lib.ListN.{length, take, length-set}
 use Rattle.lines.specs.Text.{framesFrom}
-use Rattle.lines.proofs.Lines.{lines-none, lines-laws, line-there}
-use Rattle.lines.proofs.decode_lines.Statement.{statement}
-use Rattle.lines.proofs.decode_lines.Tie as tie
+use Rattle.lines.proofs.Lines.{line-there}
+use Rattle.reader.proofs.Loops.{lines-none, lines-laws}
+use Rattle.reader.proofs.decode_lines.Statement.{statement}
+use Rattle.reader.proofs.decode_lines.Tie as tie
 
 abbrev Inv-loop : tie.InvT-loop
 Inv-loop bytes words₀ i₀ at₀ words i at =

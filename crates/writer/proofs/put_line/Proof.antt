@@ -1,7 +1,7 @@
-use Rattle.lines.proofs.Whole.{line-put}
+use Rattle.writer.proofs.Whole.{line-put}
 use borrow.Author.Needs.{needs}
-use Rattle.lines.proofs.put_line.Statement.{statement}
-use Rattle.lines.proofs.put_line.Tie as tie
+use Rattle.writer.proofs.put_line.Statement.{statement}
+use Rattle.writer.proofs.put_line.Tie as tie
 
 write-at-requires : tie.Need-write-at-requires
 write-at-requires c κs = search needs

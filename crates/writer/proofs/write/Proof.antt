@@ -1,7 +1,7 @@
-use Rattle.lines.proofs.Whole.{write-laws}
+use Rattle.writer.proofs.Whole.{write-laws}
 use borrow.Author.Needs.{needs}
-use Rattle.lines.proofs.write.Statement.{statement}
-use Rattle.lines.proofs.write.Tie as tie
+use Rattle.writer.proofs.write.Statement.{statement}
+use Rattle.writer.proofs.write.Tie as tie
 
 judge-requires : tie.Need-judge-requires
 judge-requires c κs = search needs
