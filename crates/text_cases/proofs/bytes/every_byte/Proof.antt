@@ -1,8 +1,8 @@
 -- The high digit goes up to 16.
 use Prim.Native.Nat.{_≤_, _-_}
 use borrow.Author.Needs.{needs}
-use Rattle.cases.proofs.bytes.every_byte.Statement.{statement}
-use Rattle.cases.proofs.bytes.every_byte.Tie as tie
+use Rattle.text_cases.proofs.bytes.every_byte.Statement.{statement}
+use Rattle.text_cases.proofs.bytes.every_byte.Tie as tie
 
 abbrev Inv-loop : tie.InvT-loop
 Inv-loop at line high₀ high = high ≤ 16

@@ -3,8 +3,8 @@ use Prim.Native.Nat.{_≤_, _-_}
 use mathlib.Core.Path.{_≡_}
 use lib.ListN.{length}
 use borrow.Author.Needs.{needs}
-use Rattle.cases.proofs.case.lengths.Statement.{statement}
-use Rattle.cases.proofs.case.lengths.Tie as tie
+use Rattle.text_cases.proofs.largest.lengths.Statement.{statement}
+use Rattle.text_cases.proofs.largest.lengths.Tie as tie
 
 abbrev Inv-loop : tie.InvT-loop
 Inv-loop table₀ line₀ table line = (length table ≡ length table₀) × (line ≤ 34)

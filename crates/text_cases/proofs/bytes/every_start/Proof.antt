@@ -1,8 +1,8 @@
 -- The count of bytes goes up to 52.
 use Prim.Native.Nat.{_≤_, _-_}
 use borrow.Author.Needs.{needs}
-use Rattle.cases.proofs.bytes.every_start.Statement.{statement}
-use Rattle.cases.proofs.bytes.every_start.Tie as tie
+use Rattle.text_cases.proofs.bytes.every_start.Statement.{statement}
+use Rattle.text_cases.proofs.bytes.every_start.Tie as tie
 
 abbrev Inv-loop : tie.InvT-loop
 Inv-loop bytes₀ bytes = bytes ≤ 52

@@ -1,8 +1,8 @@
 -- The low digit goes up to 16.
 use Prim.Native.Nat.{_≤_, _-_}
 use borrow.Author.Needs.{needs}
-use Rattle.cases.proofs.bytes.sixteen_bytes.Statement.{statement}
-use Rattle.cases.proofs.bytes.sixteen_bytes.Tie as tie
+use Rattle.text_cases.proofs.bytes.sixteen_bytes.Statement.{statement}
+use Rattle.text_cases.proofs.bytes.sixteen_bytes.Tie as tie
 
 abbrev Inv-loop : tie.InvT-loop
 Inv-loop at line first low₀ low = low ≤ 16

@@ -1,5 +1,6 @@
 // Every byte at one place of a small text, and every start of it.
-use crate::case;
+use crate::text_case;
+use cases::case;
 use image::Image;
 use image::Verdict;
 
@@ -7,7 +8,7 @@ use image::Verdict;
 fn small_text() -> [u8; 51] {
     let mut text = [b'0'; 51];
     writer::write(&[0xa000_0000_0000_0001, 0xa100_0000_0000_0000], &mut text);
-    case::set_byte(&mut text, 50, 0x0a);
+    text_case::set_byte(&mut text, 50, 0x0a);
     text
 }
 
@@ -21,7 +22,7 @@ fn first_read(text: &[u8], bytes: usize) -> Verdict {
 
 fn retyped(at: usize, byte: u8) -> Verdict {
     let mut text = small_text();
-    case::set_byte(&mut text, at, byte);
+    text_case::set_byte(&mut text, at, byte);
     first_read(&text, 34)
 }
 

@@ -1,20 +1,21 @@
 // Cases on the reader and the writer.
 use crate::bytes;
-use crate::case;
+use crate::text_case;
+use cases::case;
 
 pub fn lines() {
     case::heading(b"first and last lines of text");
-    case::read(b"empty input", b"");
-    case::changed_byte(b"line, first", 0, b'A');
-    case::changed_byte(b"line, last", 17 * 1057 + 16, b' ');
+    text_case::read(b"empty input", b"");
+    text_case::changed_byte(b"line, first", 0, b'A');
+    text_case::changed_byte(b"line, last", 17 * 1057 + 16, b' ');
     case::heading(b"every byte for the a of line 1's a1: 00 with 2, or at 1");
     bytes::every_byte(17, 1);
     case::heading(b"every byte for line 0's 0a: 00 with 2, or at 0");
     bytes::every_byte(16, 0);
     case::heading(b"two faults in text");
-    case::read(b"header, then a malformed line", b"a100000000000001\nz");
-    case::read(b"malformed, for a header", b"A100000000000001\n");
-    case::read(
+    text_case::read(b"header, then a malformed line", b"a100000000000001\nz");
+    text_case::read(b"malformed, for a header", b"A100000000000001\n");
+    text_case::read(
         b"malformed, for a body",
         b"a000000000000001\nA000000000000000\n",
     );
@@ -24,11 +25,11 @@ pub fn starts() {
     case::heading(b"the first bytes of the smallest image and a line more");
     bytes::every_start();
     case::heading(b"the first bytes of the largest image and a byte more");
-    case::first_bytes(b"17,969", 17969);
-    case::first_bytes(b"17,970", 17970);
-    case::first_bytes(b"17,985", 17985);
-    case::first_bytes(b"17,986", 17986);
-    case::first_bytes(b"17,987", 17987);
+    text_case::first_bytes(b"17,969", 17969);
+    text_case::first_bytes(b"17,970", 17970);
+    text_case::first_bytes(b"17,985", 17985);
+    text_case::first_bytes(b"17,986", 17986);
+    text_case::first_bytes(b"17,987", 17987);
 }
 
 pub fn room() {
@@ -40,53 +41,53 @@ pub fn room() {
 }
 
 fn room_to_read() {
-    case::read_to(b"0 words, malformed", b"z", 0);
-    case::read_to(b"1,057 words, empty input", b"", 1057);
-    case::read_to(b"1,057 words, malformed", b"z", 1057);
-    case::read_to(b"1,057 words, header", b"a100000000000001\n", 1057);
-    case::largest_read_to(b"1,057 words, 1,058 lines", 1057);
-    case::largest_read_to(b"1,058 words, 1,058 lines", 1058);
-    case::largest_read_to(b"1,059 words, 1,058 lines", 1059);
+    text_case::read_to(b"0 words, malformed", b"z", 0);
+    text_case::read_to(b"1,057 words, empty input", b"", 1057);
+    text_case::read_to(b"1,057 words, malformed", b"z", 1057);
+    text_case::read_to(b"1,057 words, header", b"a100000000000001\n", 1057);
+    text_case::largest_read_to(b"1,057 words, 1,058 lines", 1057);
+    text_case::largest_read_to(b"1,058 words, 1,058 lines", 1058);
+    text_case::largest_read_to(b"1,059 words, 1,058 lines", 1059);
 }
 
 fn room_to_write() {
-    case::written_to(
+    text_case::written_to(
         b"0 bytes, 2 frames",
         &[0xa000_0000_0000_0001, 0xa100_0000_0000_0000],
         0,
     );
-    case::written_to(
+    text_case::written_to(
         b"33 bytes, 2 frames",
         &[0xa000_0000_0000_0001, 0xa100_0000_0000_0000],
         33,
     );
-    case::written_to(
+    text_case::written_to(
         b"34 bytes, 2 frames",
         &[0xa000_0000_0000_0001, 0xa100_0000_0000_0000],
         34,
     );
-    case::written_to(
+    text_case::written_to(
         b"35 bytes, 2 frames",
         &[0xa000_0000_0000_0001, 0xa100_0000_0000_0000],
         35,
     );
-    case::largest_written_to(b"17,985 bytes, 1,058 frames", 17985);
-    case::largest_written_to(b"17,986 bytes, 1,058 frames", 17986);
+    text_case::largest_written_to(b"17,985 bytes, 1,058 frames", 17985);
+    text_case::largest_written_to(b"17,986 bytes, 1,058 frames", 17986);
 }
 
 fn refused_before_room() {
-    case::written_to(b"0 bytes, header", &[0xa100_0000_0000_0001], 0);
-    case::written_to(
+    text_case::written_to(b"0 bytes, header", &[0xa100_0000_0000_0001], 0);
+    text_case::written_to(
         b"0 bytes, body",
         &[0xa000_0000_0000_0001, 0xa000_0000_0000_0000],
         0,
     );
-    case::written_to(
+    text_case::written_to(
         b"0 bytes, op",
         &[0xa000_0000_0000_0001, 0xa100_0000_0000_0001, 0],
         0,
     );
-    case::written_to(
+    text_case::written_to(
         b"0 bytes, field",
         &[
             0xa000_0000_0000_0001,
@@ -95,8 +96,8 @@ fn refused_before_room() {
         ],
         0,
     );
-    case::written_to(b"0 bytes, short", &[], 0);
-    case::written_to(
+    text_case::written_to(b"0 bytes, short", &[], 0);
+    text_case::written_to(
         b"0 bytes, extra",
         &[
             0xa000_0000_0000_0001,
