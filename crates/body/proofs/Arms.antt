@@ -6,6 +6,7 @@ use mathlib.Core.List.{List}
 use native.Mathlib.Omega.{arith}
 use borrow.Author.Tests.{lt-ltb, le-ltb, le-leb, lt-leb}
 use lib.ListN.{length, getD, set}
+use Rattle.laws.specs.Lists.{none-past}
 use Rattle.frame.specs.declared.Frame.{Frame}
 use Rattle.frame.specs.Fields.{fields}
 use Rattle.frame.specs.Ops.{meaningOf}
@@ -24,7 +25,6 @@ use Rattle.turns.specs.declared.Obeyed.the-variants.{Stops, Goes, Waits, Took, 
 use Rattle.turns.specs.declared.Done.{Done}
 use Rattle.shows.specs.Shows.{Lists, kept}
 use Rattle.turns.specs.Code.{goesTo, marksTo, endsTo, did, code, obeyed, staysAt, nextInput, withLeft, completedTo, completedAt, completed, ranTo}
-use Rattle.obey.proofs.Arms.{cell-past}
 
 -- Where a body stands
 module _ (t b : ℕ) (m : Marks) where
@@ -84,7 +84,7 @@ pub obeyed-completed : (t k b p : ℕ) (i f : Frame) (n : Now) (inputs ps qs : L
 obeyed-completed t k b p i f n inputs ps qs l l′ cs ds o x e d y q = rw (← e, ← d, y, q)
 
 pub first-past : (l : List ℕ) (b : ℕ) → length l ≤ b → 0 ≡ getD l (b + 1) 0
-first-past l b h = cell-past l (b + 1) (omega arith)
+first-past l b h = none-past l (b + 1) (omega arith)
 
 module _ (c taken : ℕ) where
   pub next-some : taken < c → taken + 1 ≡ nextInput c taken

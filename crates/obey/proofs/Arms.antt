@@ -6,9 +6,9 @@ use mathlib.Core.List.{List, []}
 use native.Mathlib.Omega.{arith}
 use borrow.Author.Tests.{ltb-true, ltb-false, leb-true, lt-ltb, le-ltb, le-leb, lt-leb, eq-eqb, ne-eqb}
 use lib.Dec.{eqb, ltb, leb}
-use lib.ListN.{length, getD, set, List·getD-eq-default}
-use lib.Seq.{set-out}
+use lib.ListN.{length, getD, set}
 use Rattle.laws.specs.Choice.{and-left}
+use Rattle.laws.specs.Lists.{none-past}
 use Rattle.kernel.specs.Search.{nth, sum}
 use Rattle.kernel.proofs.Measure.{time-one}
 use Rattle.kernel.proofs.Search.{nth-past, nth-at}
@@ -23,14 +23,7 @@ use Rattle.turns.specs.declared.Done.{Done}
 use Rattle.shows.specs.Shows.{Lists, lists, Kept, kept}
 use Rattle.turns.specs.Code.{isThread, Did, did, isPast, waitCame, waitedOn, waitedTill, triggeredIn, askedIn, addsTime, tookBy, timesIn, full, dueBy, inTime, startsBy}
 
--- past the end of a list
-pub set-past : (l : List ℕ) (i v : ℕ) → length l ≤ i → l ≡ set l i v
-set-past l i v h = sym (set-out l i v h)
-
--- Cells and inputs
-pub cell-past : (l : List ℕ) (a : ℕ) → length l ≤ a → 0 ≡ getD l a 0
-cell-past l a h = sym (List·getD-eq-default l 0 h)
-
+-- Inputs
 module _ (inputs : List ℕ) (k d : ℕ) (m : Marks) (cs : List ℕ) (r : Done) where
   abbrev Takes : List ℕ → Type 0
   Takes ds = did (r .came) (kept (r .marks) (lists [] [] [])) ds ≡ tookBy (nth inputs k) d (kept m (lists [] [] [])) cs
@@ -110,7 +103,7 @@ module _ (m : Marks) (ps : List ℕ) (e : ℕ) (z : Bool) (h : z ≡ has (m .pen
   adds-none q = rw (← h, q)
 
   pub adds-past : z ≡ false → length ps ≤ e → false ≡ addsTime e (kept m (lists ps [] []))
-  adds-past q g = rw (← h, q, ← cell-past ps e g)
+  adds-past q g = rw (← h, q, ← none-past ps e g)
 
 -- A due time asked for: x is what is kept before it, y what it does
 module _ (adds : Bool) (q : ℕ) (x : Kept) (cs : List ℕ) (y : Did) where

@@ -1,14 +1,13 @@
 -- The decision over the plain op numbers, each law as an arm of the code has it. Assumes nothing.
 use Prim.Native.Nat.{ℕ, zero, suc, _+_, _-_, _≤_, _<_}
-use mathlib.Core.Path.{_≡_, refl, sym, ap, _∙_}
+use mathlib.Core.Path.{_≡_, refl, ap, _∙_}
 use mathlib.Core.Bool.{Bool, true, false}
 use mathlib.Core.List.{List, [], _∷_}
 use native.Mathlib.Omega.{arith}
 use native.Mathlib.Numerals.{add-one}
 use borrow.Author.Tests.{le-leb, lt-leb, eq-eqb, ne-eqb}
 use lib.Dec.{T, eqb, leb}
-use lib.ListN.{length, getD, set, List·getD-eq-default}
-use lib.Seq.{set-out}
+use lib.ListN.{getD}
 use Rattle.laws.specs.Choice.{if_then_else_}
 use Rattle.laws.specs.Span.{Arm, AllTold, Rest, Outside, in-span, the-rest}
 use Rattle.word.specs.Word.{Result, value, stop}
@@ -22,12 +21,6 @@ use Rattle.effect.specs.declared.Eff.the-variants.{Put, Next, Go, Stop, Leave}
 use Rattle.plain.specs.Plain.{isPlain, seen, asEff, plainEffect, stands, Comes, loadOf, storeOf, holdOf}
 
 -- Single functions
-pub cell-past : (l : List ℕ) (a : ℕ) → length l ≤ a → 0 ≡ getD l a 0
-cell-past l a h = sym (List·getD-eq-default l 0 h)
-
-pub set-past : (l : List ℕ) (i v : ℕ) → length l ≤ i → l ≡ set l i v
-set-past l i v h = sym (set-out l i v h)
-
 module _ (i : Frame) (cs : List ℕ) (v x : ℕ) (e : x ≡ v) where
   pub load-out : i .b ≤ x → Stop 16 ≡ loadOf i v cs
   load-out h = rw (← e, le-leb (i .b) x h)

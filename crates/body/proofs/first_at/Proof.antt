@@ -1,5 +1,5 @@
-use Rattle.obey.proofs.Arms.{cell-past}
 use borrow.Author.Needs.{needs}
+use Rattle.laws.specs.Lists.{stores}
 use Rattle.body.proofs.first_at.Statement.{statement}
 use Rattle.body.proofs.first_at.Tie as tie
 
@@ -13,7 +13,7 @@ returns : tie.Need-returns
 returns c = search needs
 
 returns-2 : tie.Need-returns-2
-returns-2 c = search (cell-past, needs)
+returns-2 c = search (stores, needs)
 
 pub first-at-spec : {M : Type 1} → statement M
 first-at-spec = tie.close (tie.spec mul-result shared-slice-read-result returns returns-2)

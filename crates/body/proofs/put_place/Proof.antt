@@ -1,5 +1,5 @@
-use Rattle.obey.proofs.Arms.{set-past}
 use borrow.Author.Needs.{needs}
+use Rattle.laws.specs.Lists.{stores}
 use Rattle.body.proofs.put_place.Statement.{statement}
 use Rattle.body.proofs.put_place.Tie as tie
 
@@ -16,7 +16,7 @@ returns : tie.Need-returns
 returns c = search needs
 
 returns-2 : tie.Need-returns-2
-returns-2 c = search (set-past, needs)
+returns-2 c = search (stores, needs)
 
 pub put-place-spec : {M : Type 1} → statement M
 put-place-spec = tie.close (tie.spec mul-places slice-write-places same-length returns returns-2)
