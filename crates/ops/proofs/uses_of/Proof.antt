@@ -70,6 +70,9 @@ from-10 : (n : ℕ) → 0x10 ≤ n → n < 0x10 + 5 → three ≡ usesOf n
 unfolding usesOf
 from-10 = in-span (Is three) 0x10 5 (refl, (refl, (refl, (refl, (refl, tt)))))
 
+below-15 : (n : ℕ) → n ≤ 0x14 → n < 0x10 + 5
+below-15 n h = omega arith
+
 from-18 : (n : ℕ) → 0x18 ≤ n → n < 0x18 + 5 → three ≡ usesOf n
 unfolding usesOf
 from-18 = in-span (Is three) 0x18 5 (refl, (refl, (refl, (refl, (refl, tt)))))
@@ -207,7 +210,7 @@ unfolding usesOf
 returns-14 c = c .used14 .ensures ∙ sym (ap usesOf (c .before .match .keys14))
 
 returns-15 : tie.Need-returns-15
-returns-15 c = c .used15 .ensures ∙ from-10 _ (omega arith) (omega arith)
+returns-15 c = c .used15 .ensures ∙ from-10 _ (omega arith) (below-15 _ (search needs))
 
 returns-16 : tie.Need-returns-16
 returns-16 c = c .used16 .ensures ∙ from-18 _ (omega arith) (omega arith)
