@@ -7,7 +7,8 @@ ghost use Rattle.turns.specs.Code.{answerAs, answered};
 ghost use Rattle.answer.specs.Answer.{said};
 
 // What a run answers: its number, the body and place of the stopping instruction, the time, the instructions completed, the choices
-// accepted, the inputs taken, and the threads not ended, thread 0 as bit 0.
+// accepted, the inputs taken, and the threads not ended, thread 0 as bit 0. C callers get it as it is.
+#[repr(C)]
 pub struct Answer {
     pub number: u32,
     pub body: u32,

@@ -1,4 +1,5 @@
--- No second answer fits a contract of the C functions: the struct is what it says, and the buffer stands beside it. Assumes nothing.
+-- No second answer fits a contract of the C functions that give a verdict: the struct is what it says, and the buffer stands beside it. Of
+-- the run that is `one-run` of `run`. Assumes nothing.
 use mathlib.Core.Path.{_≡_, refl, sym, ap, _∙_}
 use mathlib.Core.List.{List}
 use Prim.Native.Nat.{ℕ}
@@ -6,9 +7,7 @@ use Rattle.laws.specs.Unique.{one-answer}
 use Rattle.image.specs.Judge.{Said}
 use Rattle.lines.specs.Text.{Outcome, outcome}
 use Rattle.fishdavit.specs.declared.FishdavitVerdict.{FishdavitVerdict}
-use Rattle.fishdavit.specs.declared.FishdavitAnswer.{FishdavitAnswer}
-use Rattle.kernel.specs.Run.{Answer, Outcome as Ran}
-use Rattle.fishdavit.specs.Plain.{plain, answer}
+use Rattle.fishdavit.specs.Plain.{plain}
 
 abbrev struct : Said → FishdavitVerdict
 struct s = record { number = s .number; line = s .line }
@@ -19,19 +18,3 @@ one-struct = one-answer plain struct (λ a. refl)
 pub one-outcome : (o : Outcome) (a b : FishdavitVerdict) (x y : List ℕ) → outcome (plain a) x ≡ o → outcome (plain b) y ≡ o → (a ≡ b) × (x ≡ y)
 one-outcome o a b x y p q =
     (one-struct (o .says) a b (ap (λ (r : Outcome). r .says) p) (ap (λ (r : Outcome). r .says) q), ap (λ (r : Outcome). r .buffer) (p ∙ sym q))
-
-abbrev answerStruct : Answer → FishdavitAnswer
-answerStruct a = record {
-  number = a .number;
-  body = a .body;
-  place = a .place;
-  time = a .time;
-  instructions = a .instructions;
-  choices = a .choices;
-  inputs = a .inputs;
-  threads = a .threads;
-}
-
-pub one-run : (o : Ran) (a b : FishdavitAnswer) (x y : List ℕ) → record { answer = answer a; cells = x } ≡ o → record { answer = answer b; cells = y } ≡ o → (a ≡ b) × (x ≡ y)
-one-run o a b x y p q =
-    (one-answer answer answerStruct (λ a. refl) (o .answer) a b (ap (λ (r : Ran). r .answer) p) (ap (λ (r : Ran). r .answer) q), ap (λ (r : Ran). r .cells) (p ∙ sym q))

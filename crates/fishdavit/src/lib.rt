@@ -6,7 +6,7 @@ ghost use Rattle.image.specs.Judge.{said, judged};
 ghost use Rattle.lines.specs.Text.{outcome, reading, writing};
 ghost use Rattle.kernel.specs.Run.{asked};
 ghost use Rattle.answer.specs.Answer.{said as ranTo};
-ghost use Rattle.fishdavit.specs.Plain.{plain, answer, Small};
+ghost use Rattle.fishdavit.specs.Plain.{plain, Small};
 
 // Document 01's number, and the line of the first fault or the count that was done.
 #[repr(C)]
@@ -48,34 +48,6 @@ pub extern "C" fn fishdavit_write(table: &[u64], bytes: &mut [u8]) -> FishdavitV
     told(writer::write(table, bytes))
 }
 
-// What a run answers.
-#[repr(C)]
-pub struct FishdavitAnswer {
-    pub number: u32,
-    pub body: u32,
-    pub place: u32,
-    pub time: u32,
-    pub instructions: u32,
-    pub choices: u32,
-    pub inputs: u32,
-    pub threads: u32,
-}
-
-fn answered(a: Answer) -> FishdavitAnswer
-    ensures { λ r. ⌜ answer r ≡ ranTo a ⌝ }
-{
-    FishdavitAnswer {
-        number: a.number,
-        body: a.body,
-        place: a.place,
-        time: a.time,
-        instructions: a.instructions,
-        choices: a.choices,
-        inputs: a.inputs,
-        threads: a.threads,
-    }
-}
-
 #[no_mangle]
 pub extern "C" fn fishdavit_run(
     table: &[u64],
@@ -83,8 +55,8 @@ pub extern "C" fn fishdavit_run(
     inputs: &[u32],
     budget: u32,
     cells: &mut [u32],
-) -> FishdavitAnswer
-    ensures { λ r. ⌜ record { answer = answer r; cells = now (cells .exit) } ≡ asked (record { table = now (table .entry); choices = now (choices .entry); inputs = now (inputs .entry); budget = budget }) (now (cells .entry)) ⌝ }
+) -> Answer
+    ensures { λ r. ⌜ record { answer = ranTo r; cells = now (cells .exit) } ≡ asked (record { table = now (table .entry); choices = now (choices .entry); inputs = now (inputs .entry); budget = budget }) (now (cells .entry)) ⌝ }
 {
-    answered(run::run(table, choices, inputs, budget, cells))
+    run::run(table, choices, inputs, budget, cells)
 }
