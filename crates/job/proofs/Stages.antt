@@ -29,7 +29,7 @@ use Rattle.job.specs.declared.Listed.{Listed}
 use Rattle.job.specs.declared.Listed.the-variants.{Count, Broken}
 use Rattle.job.specs.Steps.{listed, countOf}
 use Rattle.program.specs.JobLines.{lineLength, afterLine, budgetOf, numbersOf}
-use Rattle.program.specs.Printing.{shown, refusal, mostPrinted}
+use Rattle.program.specs.Printing.{refusal, mostPrinted}
 use Rattle.program.specs.Whole.{firstCells, fromTable, byImage, fromImage, fromInputs, fromChoices, printed, Written, wrote, put, shownIn, answered}
 use Rattle.printing.proofs.Puts.{shown-is}
 
