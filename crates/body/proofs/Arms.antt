@@ -6,7 +6,6 @@ use mathlib.Core.List.{List}
 use native.Mathlib.Omega.{arith}
 use borrow.Author.Tests.{lt-ltb, le-ltb, le-leb, lt-leb}
 use lib.ListN.{length, getD, set}
-use Rattle.laws.specs.Lists.{none-past}
 use Rattle.frame.specs.declared.Frame.{Frame}
 use Rattle.frame.specs.Fields.{fields}
 use Rattle.frame.specs.Ops.{meaningOf}
@@ -82,9 +81,6 @@ module _ (b p : ℕ) (o : Obeyed) (ps qs : List ℕ) where
 pub obeyed-completed : (t k b p : ℕ) (i f : Frame) (n : Now) (inputs ps qs : List ℕ) (l l′ : Lists) (cs ds : List ℕ) (o : Done) (x : Now) → f ≡ i → did (o .came) (kept (o .marks) l′) ds ≡ obeyed t b f n inputs (kept (n .marks) l) cs (meaningOf (f .op)) → x ≡ completedTo t k b p (o .came) (o .marks) n → qs ≡ completedAt b p (o .came) ps
     → code x l′ qs ds ≡ completed t k b p (obeyed t b i n inputs (kept (n .marks) l) cs (meaningOf (i .op))) n ps
 obeyed-completed t k b p i f n inputs ps qs l l′ cs ds o x e d y q = rw (← e, ← d, y, q)
-
-pub first-past : (l : List ℕ) (b : ℕ) → length l ≤ b → 0 ≡ getD l (b + 1) 0
-first-past l b h = none-past l (b + 1) (omega arith)
 
 module _ (c taken : ℕ) where
   pub next-some : taken < c → taken + 1 ≡ nextInput c taken

@@ -16,14 +16,6 @@ ghost use Rattle.plain.specs.Laws.{Inside};
 ghost use Rattle.shows.specs.Shows.{lists, kept};
 ghost use Rattle.turns.specs.Code.{code, marksTo, obeyed, staysAt, nextInput, withLeft, completedTo, completedAt, completed, ranTo, bodyRun};
 
-pub fn put_place(places: &mut [usize], b: usize, p: usize)
-    ensures { λ r. ⌜ now (places .exit) ≡ set (now (places .entry)) b p ⌝ }
-{
-    if b < places.len() {
-        places[b] = p;
-    }
-}
-
 // Where body b stands after what it asked of the kernel, where it did not wait: a thread that is suspended gives control back.
 fn stay(b: usize, threads: usize, marks: Marks) -> Control
     ensures { λ r. ⌜ r ≡ staysAt threads b marks ⌝ }
@@ -128,51 +120,22 @@ fn complete(
     match came {
         Obeyed::Stops(k) => turns::to(n, Control::Over(k, b, p)),
         Obeyed::Goes => {
-            put_place(places, b, p + 1);
+            places::put_place(places, b, p + 1);
             counted(n, stay(b, threads, marks), marks)
         }
         Obeyed::Waits => {
-            put_place(places, b, p + 1);
+            places::put_place(places, b, p + 1);
             counted(n, Control::Evaluation, marks)
         }
         Obeyed::Took => {
-            put_place(places, b, p + 1);
+            places::put_place(places, b, p + 1);
             counted_input(n, b, count)
         }
         Obeyed::Begins(x) => {
-            put_place(places, b, p + 1);
+            places::put_place(places, b, p + 1);
             counted_start(n, x)
         }
     }
-}
-
-// The line of the first instruction of body b, or the line past the last where b is the count of bodies.
-pub fn first_at(firsts: &[usize], b: usize) -> usize
-    ensures { λ r. ⌜ r ≡ getD (now (firsts .entry)) b 0 ⌝ }
-{
-    if b < firsts.len() {
-        return firsts[b];
-    }
-    0
-}
-
-// And of the body after b.
-pub fn first_after(firsts: &[usize], b: usize) -> usize
-    ensures { λ r. ⌜ r ≡ getD (now (firsts .entry)) (b + 1) 0 ⌝ }
-{
-    if b < firsts.len() {
-        return first_at(firsts, b + 1);
-    }
-    0
-}
-
-pub fn distance(from: usize, to: usize) -> usize
-    ensures { λ r. ⌜ r ≡ to - from ⌝ }
-{
-    if to < from {
-        return 0;
-    }
-    to - from
 }
 
 // The instruction at place p of body b, which stands in a line of the table and is not plain.
@@ -268,9 +231,9 @@ fn run_from_place(
 ) -> Ran
     ensures { λ r. ⌜ (record { ran = r; cells = now (cells .exit) } ≡ runPlain left (now (table .entry)) base (getD (now (firsts .entry)) (b + 1) 0 - base) (getD (now (places .entry)) b 0) (now (cells .entry))) × (now (places .exit) ≡ set (now (places .entry)) b (r .place)) ⌝ }
 {
-    let len = distance(base, first_after(firsts, b));
-    let ran = plain::run_plain(table, base, len, first_at(places, b), left, cells);
-    put_place(places, b, ran.place);
+    let len = places::distance(base, places::place_after(firsts, b));
+    let ran = plain::run_plain(table, base, len, places::place_of(places, b), left, cells);
+    places::put_place(places, b, ran.place);
     ran
 }
 
@@ -290,7 +253,7 @@ pub fn run(
 ) -> Now
     ensures { λ r. ⌜ code r (lists (now (pends .exit)) (now (waits .exit)) (now (waiters .exit))) (now (places .exit)) (now (cells .exit)) ≡ bodyRun (now (table .entry)) (now (inputs .entry)) (now (firsts .entry)) threads b (code n (lists (now (pends .entry)) (now (waits .entry)) (now (waiters .entry))) (now (places .entry)) (now (cells .entry))) ⌝ }
 {
-    let base = first_at(firsts, b);
+    let base = places::place_of(firsts, b);
     let ran = run_from_place(table, base, firsts, b, n.left, places, cells);
     let m = with_left(n, ran.left);
     after_plain(

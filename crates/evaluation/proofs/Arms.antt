@@ -1,7 +1,7 @@
 -- Evaluation, each law as an arm of the code has it. Assumes nothing.
 use Prim.Native.Nat.{ℕ, _%_, _≤_, _<_}
 use mathlib.Core.Path.{_≡_, refl, sym, ap, _∙_}
-use mathlib.Core.Bool.{Bool, true, false}
+use mathlib.Core.Bool.{Bool, true, false, true≢false}
 use mathlib.Core.List.{List}
 use native.Mathlib.Omega.{arith}
 use borrow.Author.Tests.{not-true, ltb-true, ne-eqb}
@@ -103,12 +103,6 @@ evaluates DeltaPhase = false
 evaluates TimePhase = false
 evaluates (Over k b p) = false
 
--- two answers that differ
-pub lost : {A : Type 0} → false ≡ true → A
-lost q =
-    let z : _≡_ {A = ℕ} 0 1 = cc in
-    absurd (omega arith)
-
 module _ (choices : List ℕ) (n : Now) where
   pub settle-turn : (x : Now) → n .control ≡ Turn → x ≡ evaluated choices TimePhase n → x ≡ settled choices n
   unfolding settled
@@ -129,5 +123,5 @@ module _ (choices : List ℕ) (n : Now) where
       by DeltaPhase o = refl
       by TimePhase o = refl
       by (Over k b p) o = refl
-      by Turn o = lost (sym o)
-      by Evaluation o = lost (sym o)
+      by Turn o = absurd (true≢false o)
+      by Evaluation o = absurd (true≢false o)

@@ -50,10 +50,6 @@ module _ (fs : List ℕ) (m : ℕ) (o : 0 < m) where
     unfolding due
     same-due = rw same-bodies (same-first (bodies fs) (omega arith))
 
-    same-body-at : (i : ℕ) → bodyAt (take m fs) i ≡ bodyAt fs i
-    unfolding bodyAt
-    same-body-at i = rw same-bodies (same-body-from i 0 (bodies fs) (omega arith))
-
     low-body : (t : Bool) (k n x : ℕ) → x ≤ suc k + n → (if t then k else x) ≤ k + suc n
     low-body true k n x h = omega arith
     low-body false k n x h = omega arith

@@ -12,10 +12,6 @@ use Rattle.kernel.specs.Machine.{Job, Control, running, updatePhase, del
 use Rattle.kernel.specs.Step.{to, ends, due, paid, perform, effectOf, phaseNumber, atEnd, someRunnable, dispatch, enter, closes, timeNext, moveTo, stepFrom, advance, step, steps}
 use Rattle.kernel.proofs.Branch.{Branch, obeys, unpaid, main-ends, thread-ends, update-ends, idles, unchosen, refuses, dispatches, updated, enters, serves, turns, waits, quiets, limits, moves, rests}
 
-pub steps-suc : (j : Job) (n : ℕ) (s : State) → steps j (suc n) s ≡ steps j n (step j s)
-unfolding steps
-steps-suc j n s = refl
-
 pub steps-one : (j : Job) (s : State) → steps j 1 s ≡ step j s
 unfolding steps
 steps-one j s = refl

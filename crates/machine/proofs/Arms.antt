@@ -1,7 +1,7 @@
 -- The definitions of one turn, each law as an arm of the code has it. Assumes nothing.
 use Prim.Native.Nat.{ℕ, zero, suc, _+_, _-_, _%_, _≤_, _<_, _^_}
 use mathlib.Core.Path.{_≡_, refl, sym, ap, _∙_}
-use mathlib.Core.Bool.{Bool, true, false}
+use mathlib.Core.Bool.{Bool, true, false, false≢true}
 use mathlib.Core.List.{List, []}
 use native.Mathlib.Omega.{arith}
 use borrow.Author.Tests.{eqb-false}
@@ -20,7 +20,7 @@ use Rattle.turns.specs.declared.Control.the-variants.{Runs, UpdatePhase, DeltaP
 use Rattle.turns.specs.declared.Now.{Now}
 use Rattle.shows.specs.Shows.{Lists, lists}
 use Rattle.turns.specs.Code.{goesTo, entersTo, entersAt, deltaTo, deltaIn, leastOf, timedBy, servedBy, code, bodyRun, settled, turnFrom, turn, isOver, turns, Code}
-use Rattle.evaluation.proofs.Arms.{lost, settle-same}
+use Rattle.evaluation.proofs.Arms.{settle-same}
 
 -- The update phase
 asked-few : (m : Marks) (u : ℕ) → firstAsked m ≡ found u → u < 32
@@ -93,22 +93,22 @@ module _ (table choices inputs firsts : List ℕ) (t : ℕ) (n m : Now) (h : m �
       by Turn o = refl
       by Evaluation o = refl
       by (Over k b p) o = refl
-      by (Runs b) o = lost o
-      by UpdatePhase o = lost o
-      by DeltaPhase o = lost o
-      by TimePhase o = lost o
+      by (Runs b) o = absurd (false≢true o)
+      by UpdatePhase o = absurd (false≢true o)
+      by DeltaPhase o = absurd (false≢true o)
+      by TimePhase o = absurd (false≢true o)
 
 -- The loop
 module _ (table choices inputs firsts : List ℕ) (t : ℕ) where
   over-turns : (n : Now) (l : Lists) (ps cs : List ℕ) (x : Control) → n .control ≡ x → isOver x ≡ true → code n l ps cs ≡ turn table choices inputs firsts t (code n l ps cs)
   over-turns n l ps cs (Over a b p) e q =
       turn-same table choices inputs firsts t n n (settle-same choices n (Over a b p) e refl) (l .pends) (l .waits) (l .waiters) ps cs (Over a b p) e refl
-  over-turns n l ps cs (Runs b) e q = lost q
-  over-turns n l ps cs UpdatePhase e q = lost q
-  over-turns n l ps cs DeltaPhase e q = lost q
-  over-turns n l ps cs Turn e q = lost q
-  over-turns n l ps cs Evaluation e q = lost q
-  over-turns n l ps cs TimePhase e q = lost q
+  over-turns n l ps cs (Runs b) e q = absurd (false≢true q)
+  over-turns n l ps cs UpdatePhase e q = absurd (false≢true q)
+  over-turns n l ps cs DeltaPhase e q = absurd (false≢true q)
+  over-turns n l ps cs Turn e q = absurd (false≢true q)
+  over-turns n l ps cs Evaluation e q = absurd (false≢true q)
+  over-turns n l ps cs TimePhase e q = absurd (false≢true q)
 
   over-stays : (k : ℕ) (c : Code) → isOver (c .now .control) ≡ true → c ≡ turns table choices inputs firsts t k c
   unfolding turns

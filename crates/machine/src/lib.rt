@@ -19,7 +19,7 @@ fn update_phase(n: Now, threads: usize, places: &mut [usize]) -> Now
         return turns::to(n, Control::DeltaPhase);
     };
     let b = threads + 1 + u;
-    body::put_place(places, b, 0);
+    places::put_place(places, b, 0);
     turns::to(n, Control::Runs(b))
 }
 

@@ -79,10 +79,10 @@ fn start(
 ) -> Now
     ensures { λ r. ⌜ (r ≡ firstNow threads (firstRan (now (table .entry)) (now (firsts .entry)) budget (now (cells .entry)) .ran .left)) × (now (places .exit) ≡ set (now (places .entry)) 0 (firstRan (now (table .entry)) (now (firsts .entry)) budget (now (cells .entry)) .ran .place)) × (now (cells .exit) ≡ firstRan (now (table .entry)) (now (firsts .entry)) budget (now (cells .entry)) .cells) ⌝ }
 {
-    let base = body::first_at(firsts, 0);
-    let len = body::distance(base, body::first_after(firsts, 0));
+    let base = places::place_of(firsts, 0);
+    let len = places::distance(base, places::place_after(firsts, 0));
     let ran = plain::run_plain(table, base, len, 0, budget, cells);
-    body::put_place(places, 0, ran.place);
+    places::put_place(places, 0, ran.place);
     first_now(threads, ran.left)
 }
 

@@ -4,8 +4,8 @@ use borrow.Author.Needs.{needs}
 use Rattle.body.proofs.run.Statement.{statement}
 use Rattle.body.proofs.run.Tie as tie
 
-first-at-requires : tie.Need-first-at-requires
-first-at-requires c κs = search needs
+place-of-requires : tie.Need-place-of-requires
+place-of-requires c κs = search needs
 
 run-from-place-requires : tie.Need-run-from-place-requires
 run-from-place-requires c κs = search needs
@@ -33,13 +33,13 @@ same-length-5 c = search needs
 
 returns : tie.Need-returns
 unfolding bodyRun
-returns c = rw (← c .before .before .before .before .before .before .before .before .before .before .before .before .before .before .before .before .before .before .before .before .before .before .before .before .first-at .ensures, ← c .before .before .before .before .before .before .before .before .before .before .before .before .before .before .before .before .before .before .before .before .before .run-from-place .ensures .0, ← c .before .before .before .before .before .before .before .before .before .before .before .before .before .before .before .before .before .before .before .before .before .run-from-place .ensures .1, ← c .before .before .before .before .before .before .before .before .before .before .before .before .before .before .before .before .with-left .ensures) (c .before .before .before .before .before .before .before .before .before .before .after-plain .ensures)
+returns c = rw (← c .before .before .before .before .before .before .before .before .before .before .before .before .before .before .before .before .before .before .before .before .before .before .before .before .place-of .ensures, ← c .before .before .before .before .before .before .before .before .before .before .before .before .before .before .before .before .before .before .before .before .before .run-from-place .ensures .0, ← c .before .before .before .before .before .before .before .before .before .before .before .before .before .before .before .before .before .before .before .before .before .run-from-place .ensures .1, ← c .before .before .before .before .before .before .before .before .before .before .before .before .before .before .before .before .with-left .ensures) (c .before .before .before .before .before .before .before .before .before .before .after-plain .ensures)
 
 pub run-spec : {M : Type 1} → statement M
 run-spec =
     tie.close
     (tie.spec
-    first-at-requires
+    place-of-requires
     run-from-place-requires
     with-left-requires
     after-plain-requires

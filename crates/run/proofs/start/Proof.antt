@@ -3,11 +3,11 @@ use borrow.Author.Needs.{needs}
 use Rattle.run.proofs.start.Statement.{statement}
 use Rattle.run.proofs.start.Tie as tie
 
-first-at-requires : tie.Need-first-at-requires
-first-at-requires c κs = search needs
+place-of-requires : tie.Need-place-of-requires
+place-of-requires c κs = search needs
 
-first-after-requires : tie.Need-first-after-requires
-first-after-requires c κs = search needs
+place-after-requires : tie.Need-place-after-requires
+place-after-requires c κs = search needs
 
 distance-requires : tie.Need-distance-requires
 distance-requires c κs = search needs
@@ -28,14 +28,14 @@ same-length-2 : tie.Need-same-length-2
 same-length-2 c = search needs
 
 returns : tie.Need-returns
-returns c = first-ran-is _ (c .before .before .before .before .before .before .before .before .before .before .before .before .before .before .before .before .args .firsts .now) (c .before .before .before .before .before .before .before .before .before .before .before .before .before .before .before .before .args .places .now) _ _ _ _ _ _ _ _ _ _ (c .before .before .before .before .before .before .before .before .before .before .before .first-at .ensures) (c .before .before .before .before .before .before .before .before .before .before .first-after .ensures) (c .before .before .before .before .before .before .before .before .before .distance .ensures) (c .before .before .before .before .before .before .before .run-plain .ensures) (c .before .before .before .put-place .ensures) (c .first-now .ensures)
+returns c = first-ran-is _ (c .before .before .before .before .before .before .before .before .before .before .before .before .before .before .before .before .args .firsts .now) (c .before .before .before .before .before .before .before .before .before .before .before .before .before .before .before .before .args .places .now) _ _ _ _ _ _ _ _ _ _ (c .before .before .before .before .before .before .before .before .before .before .before .place-of .ensures) (c .before .before .before .before .before .before .before .before .before .before .place-after .ensures) (c .before .before .before .before .before .before .before .before .before .distance .ensures) (c .before .before .before .before .before .before .before .run-plain .ensures) (c .before .before .before .put-place .ensures) (c .first-now .ensures)
 
 pub start-spec : {M : Type 1} → statement M
 start-spec =
     tie.close
     (tie.spec
-    first-at-requires
-    first-after-requires
+    place-of-requires
+    place-after-requires
     distance-requires
     run-plain-requires
     put-place-requires

@@ -1,7 +1,7 @@
 use borrow.Author.Needs.{needs}
 use Rattle.laws.specs.Lists.{stores}
-use Rattle.body.proofs.put_place.Statement.{statement}
-use Rattle.body.proofs.put_place.Tie as tie
+use Rattle.places.proofs.put_place.Statement.{statement}
+use Rattle.places.proofs.put_place.Tie as tie
 
 mul-places : tie.Need-mul-places
 mul-places c = search needs

@@ -1,7 +1,7 @@
 use borrow.Author.Needs.{needs}
 use Rattle.laws.specs.Lists.{stores}
-use Rattle.body.proofs.first_at.Statement.{statement}
-use Rattle.body.proofs.first_at.Tie as tie
+use Rattle.places.proofs.place_of.Statement.{statement}
+use Rattle.places.proofs.place_of.Tie as tie
 
 mul-result : tie.Need-mul-result
 mul-result c = search needs
@@ -15,5 +15,5 @@ returns c = search needs
 returns-2 : tie.Need-returns-2
 returns-2 c = search (stores, needs)
 
-pub first-at-spec : {M : Type 1} → statement M
-first-at-spec = tie.close (tie.spec mul-result shared-slice-read-result returns returns-2)
+pub place-of-spec : {M : Type 1} → statement M
+place-of-spec = tie.close (tie.spec mul-result shared-slice-read-result returns returns-2)
