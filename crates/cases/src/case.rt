@@ -1,5 +1,7 @@
 // One case: an answer is printed after the case's label.
 use image::Verdict;
+ghost use mathlib.Core.Path.{_≡_};
+ghost use lib.ListN.{set as stored};
 
 pub fn heading(words: &[u8]) {
     io::write_all(1, words);
@@ -38,7 +40,9 @@ pub fn mark(a: Verdict, frames: usize, line: usize) {
     }
 }
 
-pub fn set(table: &mut [u64], line: usize, frame: u64) {
+pub fn set(table: &mut [u64], line: usize, frame: u64)
+    ensures { λ r. ⌜ now (table .exit) ≡ stored (now (table .entry)) line frame ⌝ }
+{
     if line < table.len() {
         table[line] = frame;
     }

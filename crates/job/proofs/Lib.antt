@@ -1,4 +1,3 @@
 pub mod Reading
 pub mod Stages
-pub mod Unique
 pub mod Longest

@@ -30,7 +30,8 @@ use Rattle.job.specs.declared.Listed.the-variants.{Count, Broken}
 use Rattle.job.specs.Steps.{listed, countOf}
 use Rattle.program.specs.JobLines.{lineLength, afterLine, budgetOf, numbersOf}
 use Rattle.program.specs.Printing.{refusal, mostPrinted}
-use Rattle.program.specs.Whole.{firstCells, fromTable, byImage, fromImage, fromInputs, fromChoices, printed, Written, wrote, put, shownIn, answered}
+use Rattle.program.specs.Whole.{firstCells, fromTable, byImage, fromImage, fromInputs, fromChoices, printed, longestJob, Written, wrote, put, shownIn, answered}
+use Rattle.program.proofs.Cap.{past-the-job}
 use Rattle.printing.proofs.Puts.{shown-is}
 
 -- the run of a table, printed
@@ -147,7 +148,12 @@ pub room : (job out : List ℕ) (w : Written) → mostPrinted ≤ length out →
 unfolding answered
 room job out w h e = rw (le-ltb (length out) mostPrinted h) e
 
-pub ruleset room-laws = (no-room, room)
+-- what stands past the longest job is left out
+pub room-cut : (job out : List ℕ) (w : Written) → mostPrinted ≤ length out → w ≡ put (printed (take longestJob job)) out → w ≡ answered job out
+room-cut job out w h e = room job out w h (e ∙ ap (λ (p : List ℕ). put p out) (past-the-job job))
+
+pub first-counted : (n : ℕ) (job : List ℕ) → n < length job → n ≡ length (take n job)
+first-counted n job h = sym (length-take-le n job (omega arith))
 
 -- the bytes written stand in the buffer
 module _ (job out l : List ℕ) (n : ℕ) where

@@ -204,5 +204,8 @@ pub fn answer(job: &[u8], out: &mut [u8]) -> usize
     if out.len() < LONGEST_ANSWER {
         return 0;
     }
+    if LONGEST_JOB < job.len() {
+        return print(&job[..LONGEST_JOB], out);
+    }
     print(job, out)
 }

@@ -74,8 +74,8 @@ pub enough : Enough
 enough j = enough-from j (bound j) (init j) tt (at-first j)
 
 -- any greater number of steps is enough too
-pub not-over : (j : Job) (n : ℕ) → bound j ≤ n → Over (steps j n (init j) .machine .control)
-not-over j n h =
+pub over-after : (j : Job) (n : ℕ) → bound j ≤ n → Over (steps j n (init j) .machine .control)
+over-after j n h =
     let e : bound j + (n - bound j) ≡ n = omega arith in
     rw (← e, steps-add j (n - bound j) (bound j) (init j), stays-all j (n - bound j) (steps j (bound j) (init j)) (enough j)) (enough j)
 

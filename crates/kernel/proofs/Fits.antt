@@ -1,5 +1,5 @@
 -- What holds where the machine stands, and every step keeps it: a running thread is runnable, and a running update requested.
-use Prim.Native.Nat.{ℕ, zero, suc, _+_, _<_}
+use Prim.Native.Nat.{ℕ, _+_, _<_}
 use mathlib.Core.Path.{_≡_, refl}
 use mathlib.Core.Bool.{Bool, true, false, _&&_}
 use mathlib.Core.List.{_∷_, _++_}
@@ -11,8 +11,8 @@ use Rattle.kernel.specs.Design.{Table, Body, main, thread, update, threa
 use Rattle.kernel.specs.Kernel.{Kernel, Deed, nothing, reads, notifies, asks, waits, requests, suspends, resumes, ran, after, kernel}
 use Rattle.kernel.specs.Pending.{runnable, isRequested}
 use Rattle.kernel.specs.Effect.{Effect, stops, sets, takes, goes, does, begins}
-use Rattle.kernel.specs.Machine.{Job, Control, running, updatePhase, deltaPhase, turn, evaluation, timePhase, over, State, Out, init}
-use Rattle.kernel.specs.Step.{effectOf, runsOn, perform, stepFrom, step, steps}
+use Rattle.kernel.specs.Machine.{Job, Control, running, updatePhase, deltaPhase, turn, evaluation, timePhase, over, State, Out}
+use Rattle.kernel.specs.Step.{effectOf, runsOn, perform, stepFrom, step}
 use Rattle.kernel.proofs.Search.{first-found}
 use Rattle.kernel.proofs.Branch as B
 use Rattle.kernel.proofs.Branch.{Branch, branch}
@@ -124,11 +124,3 @@ module _ (j : Job) (s : State) where
 pub fits-step : (j : Job) (s : State) → Fits (j .table) (kernel (s .history)) (s .machine .control) → Fits (j .table) (kernel (step j s .history)) (step j s .machine .control)
 unfolding step
 fits-step j s f = fits-branch j s (s .machine .control) (stepFrom j s (s .machine .control)) (branch j s (s .machine .control)) f
-
-fits-from : (j : Job) (n : ℕ) (s : State) → Fits (j .table) (kernel (s .history)) (s .machine .control) → Fits (j .table) (kernel (steps j n s .history)) (steps j n s .machine .control)
-unfolding steps
-fits-from j zero s f = f
-fits-from j (suc n) s f = fits-from j n (step j s) (fits-step j s f)
-
-pub fits-steps : (j : Job) (n : ℕ) → Fits (j .table) (kernel (steps j n (init j) .history)) (steps j n (init j) .machine .control)
-fits-steps j n = fits-from j n (init j) tt

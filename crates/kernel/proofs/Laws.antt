@@ -113,5 +113,3 @@ module _ (j : Job) (s : State) where
   -- Over
   pub step-rests : (n b p : ℕ) → s .machine .control ≡ over n b p → step j s ≡ advance s (to j s (over n b p))
   step-rests n b p e = step-by j s (over n b p) _ e (rests n b p)
-
-pub ruleset step-laws = (step-obeys, step-unpaid, step-main-ends, step-thread-ends, step-update-ends, step-idles, step-unchosen, step-refuses, step-dispatches, step-updated, step-enters, step-serves, step-turns, step-waits, step-quiets, step-limits, step-moves, step-rests)

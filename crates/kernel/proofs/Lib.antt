@@ -17,5 +17,6 @@ pub mod Rightly
 pub mod Comes
 pub mod Moments
 pub mod Serves
+pub mod Stops
 pub mod Told
 pub mod Demand

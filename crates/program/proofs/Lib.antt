@@ -1,3 +1,4 @@
 pub mod Lines
 pub mod Refusals
 pub mod Cap
+pub mod Unique

@@ -137,8 +137,8 @@ fn run_laid(
     ensures { λ r. ⌜ record { answer = said r; cells = now (cells .exit) } ≡ told budget (turns (now (table .entry)) (now (choices .entry)) (now (inputs .entry)) (now (firsts .entry)) threads (8 * (budget + length (now (choices .entry))) + 1) (started (now (table .entry)) (now (firsts .entry)) threads budget (firstLists threads events) (replicate (1 + threads + updates) 0) (now (cells .entry)))) ⌝ }
 {
     let bodies = 1 + threads + updates;
-    let mut pends = [0x1_0000_0001u64; Image::EVENTS as usize];
-    let mut waits = [0x1_0000_0001u64; Image::THREADS as usize];
+    let mut pends = [dues::NOTHING; Image::EVENTS as usize];
+    let mut waits = [dues::NOTHING; Image::THREADS as usize];
     let mut waiters = [0u32; Image::EVENTS as usize];
     let mut places = [0usize; Image::BODIES];
     run_from(

@@ -3,6 +3,8 @@ use crate::largest;
 use cases::case;
 use image::Image;
 use image::Verdict;
+ghost use mathlib.Core.Path.{_≡_};
+ghost use lib.ListN.{set};
 
 fn say(label: &[u8], a: Verdict) {
     io::write_all(1, b"  ");
@@ -39,7 +41,9 @@ pub fn first_bytes(label: &[u8], bytes: usize) {
     first_read_to(label, &text, bytes, Image::LINES);
 }
 
-pub fn set_byte(text: &mut [u8], at: usize, byte: u8) {
+pub fn set_byte(text: &mut [u8], at: usize, byte: u8)
+    ensures { λ r. ⌜ now (text .exit) ≡ set (now (text .entry)) at byte ⌝ }
+{
     if at < text.len() {
         text[at] = byte;
     }

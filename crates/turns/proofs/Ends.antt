@@ -17,7 +17,7 @@ use Rattle.kernel.specs.Step.{steps}
 use Rattle.kernel.specs.Run.{notEnded as notEndedOf, ends, outcomeFrom, outcomeOf, bound, runs}
 use Rattle.kernel.specs.Enough.{Over as IsOver}
 use Rattle.kernel.proofs.Small.{Small, Few, few}
-use Rattle.kernel.proofs.Enough.{steps-add, not-over, final}
+use Rattle.kernel.proofs.Enough.{steps-add, over-after, final}
 use Rattle.marks.specs.Marks.{notEnded}
 use Rattle.shows.specs.Shows.{kept, Few as Room}
 use Rattle.shows.proofs.Asks.{not-ended-is}
@@ -102,7 +102,7 @@ told-is j lent firsts g m c st k h small short =
     let rest : List ℕ = drop (cells (j .table)) lent in
     let q : Gone j rest k (steps j m (init j)) (turns (j .table) (j .choices) (j .inputs) firsts (threads (j .table)) k c) = turns-follow j rest firsts g k (steps j m (init j)) c st in
     let sp : StandsAt j rest (steps j (m + q .count) (init j)) (turns (j .table) (j .choices) (j .inputs) firsts (threads (j .table)) k c) = subst (λ (x : State). StandsAt j rest x (turns (j .table) (j .choices) (j .inputs) firsts (threads (j .table)) k c)) (sym (steps-add j (q .count) m (init j))) (q .stands) in
-    let o : IsOver (steps j (m + q .count) (init j) .machine .control) = not-over j (m + q .count) (omega (arith, q .many)) in
+    let o : IsOver (steps j (m + q .count) (init j) .machine .control) = over-after j (m + q .count) (omega (arith, q .many)) in
     sym (final j lent (m + q .count) o ∙ tells j lent rest refl (steps j (m + q .count) (init j)) (turns (j .table) (j .choices) (j .inputs) firsts (threads (j .table)) k c) sp (few j (m + q .count)) small short o)
 
 -- The first state ---------------------------------------------------------------------------------------------------

@@ -1,0 +1,189 @@
+-- An instruction stops a run with one of the numbers that specs/Demand.antt names, and with no other.
+use Prim.Native.Nat.{ℕ, zero, suc, _/_, _%_}
+use mathlib.Core.Path.{_≡_, refl}
+use mathlib.Core.Bool.{Bool, true, false, _&&_}
+use mathlib.Core.List.{List, [], _∷_}
+use lib.Dec.{eqb, ltb, leb}
+use lib.IntN.{ℤ, _+ℤ_, _-ℤ_, _*ℤ_}
+use lib.Signed.{quotZ, remZ}
+use lib.ListN.{getD}
+use Rattle.laws.specs.Choice.{if_then_else_}
+use Rattle.word.specs.Word.{Result, value, stop, quotU, remU, signed, bitsOf, inRange, narrow, addS, subS, mulS, divisionS, quotS, remS}
+use Rattle.frame.specs.declared.Frame.{Frame}
+use Rattle.frame.specs.Ops.{Meaning, takesImm, takesInput, one, two, may, load, store, goto, gotoIf, holds, waitEvent, waitTime, notify, notifyAfter, request, suspend, resume, startLimit, start, unknown, Row, ops, lookMeaning, meaningOf}
+use Rattle.kernel.specs.Search.{Found, none, found}
+use Rattle.kernel.specs.Kernel.{Due, never, delta, at, afterDelay, till, Deed, asks, waits, Stage, before, during, past}
+use Rattle.kernel.specs.Effect.{View, Effect, stops, sets, takes, goes, does, begins, stopIf, setsTo, takesTo, goesIf, startsIn, mainPast, isNever, asksFor, effect}
+use Rattle.kernel.specs.Demand.{isStop}
+
+abbrev pub Right : Effect → Type 0
+Right (stops n) = isStop n ≡ true
+Right (sets d x) = Unit {0}
+Right (takes d x) = Unit {0}
+Right (goes p) = Unit {0}
+Right (does x) = Unit {0}
+Right (begins l) = Unit {0}
+
+-- What the op table holds -----------------------------------------------------------------------------------------
+
+abbrev RightResult : Result → Type 0
+RightResult (value x) = Unit {0}
+RightResult (stop n) = isStop n ≡ true
+
+-- a value, or one of the numbers
+by-result : (b : Bool) (x n : ℕ) → isStop n ≡ true → RightResult (if b then value x else stop n)
+by-result true x n q = tt
+by-result false x n q = q
+
+unless-zero : (b : Bool) (r : Result) → RightResult r → RightResult (if b then stop 14 else r)
+unless-zero true r h = refl
+unless-zero false r h = h
+
+-- no operation and no test stops a run with another number
+abbrev Sound : Meaning → Type 0
+Sound (may f) = (x y : ℕ) → RightResult (f x y)
+Sound (holds n) = isStop n ≡ true
+Sound takesImm = Unit {0}
+Sound takesInput = Unit {0}
+Sound (one f) = Unit {0}
+Sound (two f) = Unit {0}
+Sound load = Unit {0}
+Sound store = Unit {0}
+Sound goto = Unit {0}
+Sound gotoIf = Unit {0}
+Sound waitEvent = Unit {0}
+Sound waitTime = Unit {0}
+Sound notify = Unit {0}
+Sound notifyAfter = Unit {0}
+Sound request = Unit {0}
+Sound suspend = Unit {0}
+Sound resume = Unit {0}
+Sound startLimit = Unit {0}
+Sound start = Unit {0}
+Sound unknown = Unit {0}
+
+-- each row of a list of ops
+infixr 5 _&_
+data Sounds : List Row → Type 0 where
+  end : Sounds []
+  _&_ : {r : Row} {rs : List Row} → Sound (r .meaning) → Sounds rs → Sounds (r ∷ rs)
+
+by-row : (b : Bool) (m n : Meaning) → Sound m → Sound n → Sound (if b then m else n)
+by-row true m n p q = p
+by-row false m n p q = q
+
+found-sound : (rs : List Row) (n : ℕ) → Sounds rs → Sound (lookMeaning rs n)
+found-sound [] n h = tt
+found-sound (r ∷ rs) n (p & h) = by-row (eqb n (r .number)) (r .meaning) (lookMeaning rs n) p (found-sound rs n h)
+
+right-quotient : (x y : ℕ) → RightResult (quotU x y)
+unfolding quotU
+right-quotient x y = unless-zero (eqb y 0) (value (x / y)) tt
+
+right-remainder : (x y : ℕ) → RightResult (remU x y)
+unfolding remU
+right-remainder x y = unless-zero (eqb y 0) (value (x % y)) tt
+
+right-narrow : (w : ℕ) (z : ℤ) → RightResult (narrow w z)
+unfolding narrow
+right-narrow w z = by-result (inRange w z) (bitsOf w z) 15 refl
+
+right-sum : (w x y : ℕ) → RightResult (addS w x y)
+unfolding addS
+right-sum w x y = right-narrow w (signed w x +ℤ signed w y)
+
+right-difference : (w x y : ℕ) → RightResult (subS w x y)
+unfolding subS
+right-difference w x y = right-narrow w (signed w x -ℤ signed w y)
+
+right-product : (w x y : ℕ) → RightResult (mulS w x y)
+unfolding mulS
+right-product w x y = right-narrow w (signed w x *ℤ signed w y)
+
+right-division : (f : ℤ → ℤ → ℤ) (w x y : ℕ) → RightResult (divisionS f w x y)
+unfolding divisionS
+right-division f w x y =
+    unless-zero (eqb y 0) _ (by-result (inRange w (quotZ (signed w x) (signed w y))) (bitsOf w (f (signed w x) (signed w y))) 15 refl)
+
+right-signed-quotient : (w x y : ℕ) → RightResult (quotS w x y)
+unfolding quotS
+right-signed-quotient w x y = right-division quotZ w x y
+
+right-signed-remainder : (w x y : ℕ) → RightResult (remS w x y)
+unfolding remS
+right-signed-remainder w x y = right-division remZ w x y
+
+sound-ops : Sounds ops
+sound-ops =
+    tt & tt & tt & tt & tt & tt & right-quotient & right-remainder
+    & right-sum 32 & right-difference 32 & right-product 32 & right-signed-quotient 32 & right-signed-remainder 32
+    & tt & tt & tt & tt & tt & tt & tt & tt & tt & tt & tt & tt & tt & tt & refl & refl
+    & tt & tt & tt & tt & tt & tt & tt & tt & tt & end
+
+-- What an instruction comes to ------------------------------------------------------------------------------------
+
+right-if : (b : Bool) (n : ℕ) (x : Effect) → isStop n ≡ true → Right x → Right (stopIf b n x)
+right-if true n x q h = q
+right-if false n x q h = h
+
+right-asks : (a : Bool) (n : ℕ) (d : Due) (x : Deed) → Right (asksFor a n d x)
+right-asks a n never x = tt
+right-asks a n delta x = tt
+right-asks a n (at u) x = right-if (ltb 4294967295 u) 17 _ refl (right-if (a && leb 48 n) 23 _ refl tt)
+
+right-sets : (d : ℕ) (r : Result) → RightResult r → Right (setsTo d r)
+right-sets d (value x) q = tt
+right-sets d (stop n) q = q
+
+right-takes : (d : ℕ) (f : Found) → Right (takesTo d f)
+right-takes d none = refl
+right-takes d (found x) = tt
+
+right-goes : (x p q : ℕ) → Right (goesIf x p q)
+right-goes zero p q = tt
+right-goes (suc x) p q = tt
+
+right-starts : (s : Stage) (l : Found) → Right (startsIn s l)
+right-starts before l = tt
+right-starts during l = refl
+right-starts (past n) l = refl
+
+module _ (v : View) (i : Frame) where
+  abbrev A : ℕ
+  A = getD (v .cells) (i .a) 0
+
+  abbrev B : ℕ
+  B = getD (v .cells) (i .b) 0
+
+  abbrev late : Bool
+  late = mainPast (v .body) (v .kernel .stage)
+
+  abbrev due : Due
+  due = afterDelay (v .kernel .now) A
+
+  right : (m : Meaning) → Sound m → Right (effect v i m)
+  unfolding effect
+  right (may f) h = right-sets (i .d) (f A B) (h A B)
+  right (holds n) h = right-if (eqb A 0) n _ h tt
+  right takesImm h = tt
+  right takesInput h = right-takes (i .d) (v .input)
+  right (one f) h = tt
+  right (two f) h = tt
+  right load h = right-if (leb (i .b) A) 16 _ refl tt
+  right store h = right-if (leb (i .b) A) 16 _ refl tt
+  right goto h = tt
+  right gotoIf h = right-goes A (i .imm) (suc (v .place))
+  right waitEvent h = tt
+  right waitTime h = right-asks true (v .times) due (waits (till due))
+  right notify h = right-if late 18 _ refl tt
+  right notifyAfter h = right-if late 18 _ refl (right-asks (isNever (v .kernel .pends (i .d))) (v .times) due (asks (i .d) due))
+  right request h = right-if late 18 _ refl tt
+  right suspend h = right-if late 18 _ refl tt
+  right resume h = right-if late 18 _ refl tt
+  right startLimit h = right-starts (v .kernel .stage) (found (i .imm))
+  right start h = right-starts (v .kernel .stage) none
+  right unknown h = refl
+
+  pub right-effect : Right (effect v i (meaningOf (i .op)))
+  unfolding meaningOf
+  right-effect = right (lookMeaning ops (i .op)) (found-sound ops (i .op) sound-ops)
