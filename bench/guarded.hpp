@@ -1,8 +1,10 @@
-// A buffer between guards, to see that a call touches nothing but what it was lent.
+// A buffer between guards, to see that a call touches nothing but what it was lent. Its pointer is valid even where it is empty, as the interface
+// asks; that of an empty vector may be null.
 #pragma once
 
 #include <algorithm>
 #include <cstddef>
+#include <type_traits>
 #include <vector>
 
 template <typename T> class Guarded {
@@ -26,3 +28,11 @@ private:
   std::vector<T> all_;
   std::size_t size_;
 };
+
+// A buffer with these contents.
+template <typename Items> auto lent(const Items &items) {
+  using Item = std::make_unsigned_t<typename Items::value_type>;
+  Guarded<Item> buffer(items.size(), 0);
+  std::copy(items.begin(), items.end(), buffer.data());
+  return buffer;
+}

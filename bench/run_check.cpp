@@ -50,9 +50,10 @@ void expect(bool holds, const char *label, const char *what) {
 
 void runs(const Case &c) {
   Guarded<uint32_t> cells(c.cells, 7);
-  const std::vector<uint32_t> inputs(c.inputs);
-  const auto a = fishdavit_run(looms.data(), c.frames, c.choices.data(), c.choices.size(), inputs.data(), inputs.size(), c.budget,
-                               cells.data(), cells.size());
+  Guarded<uint8_t> choices = lent(c.choices);
+  Guarded<uint32_t> inputs(c.inputs, 0);
+  const auto a = fishdavit_run(looms.data(), c.frames, choices.data(), choices.size(), inputs.data(), inputs.size(), c.budget, cells.data(),
+                               cells.size());
   const Answer said = {a.number, a.body, a.place, a.time, a.instructions, a.choices, a.inputs, a.threads};
   expect(said == c.answer, c.label, "answer");
   const bool refused = a.number >= 2 && a.number <= 9;

@@ -4,6 +4,7 @@
 #include <fstream>
 #include <iostream>
 #include <iterator>
+#include <string>
 #include <vector>
 
 static const char *const meaning[] = {"accepted", "line",  "header", "body", "op",
@@ -17,8 +18,8 @@ int main(int argc, char **argv) {
       std::cerr << argv[i] << ": cannot be opened\n";
       return 2;
     }
-    std::vector<char> text((std::istreambuf_iterator<char>(file)), std::istreambuf_iterator<char>());
-    text.reserve(1);
+    // The pointer of a string is valid even where the string is empty, as the interface asks; that of a vector may be null.
+    const std::string text{std::istreambuf_iterator<char>(file), std::istreambuf_iterator<char>()};
     const auto verdict = fishdavit_read(reinterpret_cast<const uint8_t *>(text.data()), text.size(), table.data(), table.size());
     std::cout << argv[i] << ": " << verdict.number << ' ' << meaning[verdict.number]
               << (verdict.number == 0 ? ", frames: " : " at line ") << verdict.line << '\n';

@@ -15,14 +15,6 @@ constexpr uint32_t held = 7; // what lent cells, words and bytes hold before a c
 
 using Found = std::optional<Difference>;
 
-// A lent buffer with these contents between guards.
-template <typename Items> auto lent(const Items &items) {
-  using Item = std::make_unsigned_t<typename Items::value_type>;
-  Guarded<Item> buffer(items.size(), 0);
-  std::copy(items.begin(), items.end(), buffer.data());
-  return buffer;
-}
-
 // Where the buffer doesn't hold the new items and then what it held before, or a guard is touched.
 template <typename T, typename Items>
 Found content_differs(const char *call, const char *name, const Guarded<T> &buffer, const Items &items) {
