@@ -1,9 +1,9 @@
 // The run through the C interface: document 01's two looms, stops and refusals, each answer worked out by hand; no cell touched but the design's.
+#include "checks.hpp"
 #include "fishdavit.h"
 #include "guarded.hpp"
 
 #include <array>
-#include <iostream>
 #include <vector>
 
 namespace {
@@ -40,13 +40,9 @@ const std::vector<Case> cases = {
     {"no table", 0, {0, 1}, 0, 100, 256, {6, 0xff, 0, 0, 0, 0, 0, 0}},
 };
 
-int passed = 0;
-int failed = 0;
+Checks checks;
 
-void expect(bool holds, const char *label, const char *what) {
-  holds ? ++passed : ++failed;
-  if (!holds) std::cout << "FAILED: " << label << ": " << what << '\n';
-}
+void expect(bool holds, const char *label, const char *what) { checks.expect(holds, std::string(label) + ": " + what); }
 
 void runs(const Case &c) {
   Guarded<uint32_t> cells(c.cells, 7);
@@ -66,6 +62,5 @@ void runs(const Case &c) {
 
 int main() {
   for (const Case &c : cases) runs(c);
-  std::cout << passed << " passed, " << failed << " failed\n";
-  return failed == 0 ? 0 : 1;
+  return checks.close();
 }

@@ -1,8 +1,8 @@
 // The C functions on a table of texts: each number from 0 to 8 with its line, nothing written but what the header says.
+#include "checks.hpp"
 #include "fishdavit.h"
 #include "guarded.hpp"
 
-#include <iostream>
 #include <string>
 #include <vector>
 
@@ -39,13 +39,9 @@ const std::vector<Case> cases = {
     {"no table comes before an empty input", "", 0, 8, 0},
 };
 
-int passed = 0;
-int failed = 0;
+Checks checks;
 
-void expect(bool holds, const char *label, const char *what) {
-  holds ? ++passed : ++failed;
-  if (!holds) std::cout << "FAILED: " << label << ": " << what << '\n';
-}
+void expect(bool holds, const char *label, const char *what) { checks.expect(holds, std::string(label) + ": " + what); }
 
 bool says(fishdavit_verdict v, uint32_t number, uint32_t line) { return v.number == number && v.line == line; }
 
@@ -90,6 +86,5 @@ void writes_back() {
 int main() {
   for (const Case &c : cases) reads(c);
   writes_back();
-  std::cout << passed << " passed, " << failed << " failed\n";
-  return failed == 0 ? 0 : 1;
+  return checks.close();
 }

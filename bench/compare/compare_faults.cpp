@@ -4,6 +4,7 @@
 #include "drawn.hpp"
 #include "reduce.hpp"
 
+#include "../checks.hpp"
 #include "planted.hpp"
 
 #include <exception>
@@ -45,15 +46,13 @@ std::optional<Noticed> noticed(uint64_t seed) {
 int main(int argc, char **argv) {
   const uint64_t seed = argc > 1 ? std::stoull(argv[1]) : 1;
   std::cout << "seed " << seed << ", " << independent::first_job_rule << " wrong rules\n";
-  int passed = 0, failed = 0;
+  Checks checks;
   for (std::size_t rule = 0; rule < independent::first_job_rule; ++rule) {
     independent::planted_rule = rule;
     const std::optional<Noticed> found = noticed(seed);
-    found ? ++passed : ++failed;
-    std::cout << (found ? "found after " + std::to_string(found->jobs) + " jobs: " : "FAILED: not found: ")
-              << independent::wrong_rules[rule];
-    std::cout << (found ? " (" + found->how + ")\n" : "\n");
+    const std::string words = independent::wrong_rules[rule];
+    checks.expect(found.has_value(), "not found: " + words);
+    if (found) std::cout << "found after " << found->jobs << " jobs: " << words << " (" << found->how << ")\n";
   }
-  std::cout << passed << " passed, " << failed << " failed\n";
-  return failed == 0 ? 0 : 1;
+  return checks.close();
 }

@@ -5,6 +5,7 @@
 #include "program_runs.hpp"
 #include "reduce.hpp"
 
+#include "../checks.hpp"
 #include "../independent/job.hpp"
 #include "planted.hpp"
 
@@ -25,13 +26,7 @@ struct Group {
   std::vector<Printed> printed;
 };
 
-int passed = 0;
-int failed = 0;
-
-void check(bool holds, const std::string &what) {
-  holds ? ++passed : ++failed;
-  std::cout << (holds ? "ok: " : "FAILED: ") << what << '\n';
-}
+Checks checks;
 
 bool differs(const JobFile &file, const Printed &printed) {
   if (printed.output != independent::answer_job(file.bytes)) return true;
@@ -69,8 +64,8 @@ void compare_group(Group &group, const std::string &program, const std::string &
   std::size_t differences = 0;
   for (std::size_t i = 0; i < group.files.size(); ++i)
     if (differs(group.files[i], group.printed[i]) && ++differences == 1) show(group.files[i], program, folder + group.path);
-  check(differences == 0, std::string(group.name) + ": " + std::to_string(group.files.size()) + " job files, " +
-                              std::to_string(differences) + " differences");
+  checks.tell(differences == 0, std::string(group.name) + ": " + std::to_string(group.files.size()) + " job files, " +
+                                    std::to_string(differences) + " differences");
 }
 
 bool noticed(const std::vector<Group> &groups) {
@@ -98,14 +93,13 @@ int main(int argc, char **argv) try {
                                {"more input than is needed", "-long.job", long_files(), {}},
                                {"random jobs", "-random.job", drawn_files(seed, jobs), {}}};
   for (Group &group : groups) compare_group(group, program, folder);
-  const bool alike = failed == 0; // else a planted rule would not be what is noticed
+  const bool alike = checks.failed() == 0; // else a planted rule would not be what is noticed
   for (std::size_t rule = independent::first_job_rule; alike && rule < independent::wrong_rule_count; ++rule) {
     independent::planted_rule = rule;
-    check(noticed(groups), std::string("a wrong rule is noticed: ") + independent::wrong_rules[rule]);
+    checks.tell(noticed(groups), std::string("a wrong rule is noticed: ") + independent::wrong_rules[rule]);
   }
-  std::cout << passed << " passed, " << failed << " failed\n";
-  return failed == 0 ? 0 : 1;
+  return checks.close();
 } catch (const std::exception &failure) {
-  std::cout << "FAILED: " << failure.what() << '\n' << passed << " passed, " << failed + 1 << " failed\n";
-  return 1;
+  checks.expect(false, failure.what());
+  return checks.close();
 }

@@ -2,6 +2,8 @@
 
 #include "reduce.hpp"
 
+#include "../checks.hpp"
+
 #include <fstream>
 #include <iomanip>
 #include <iostream>
@@ -55,25 +57,21 @@ void Tally::show(const Row &row, const std::string &label, const Made &made, con
 }
 
 int Tally::report(bool enough_jobs) const {
-  int passed = 0, failed = 0;
-  const auto check = [&](bool holds, const std::string &what) {
-    holds ? ++passed : ++failed;
-    if (!holds) std::cout << "FAILED: " << what << '\n';
-  };
+  Checks checks;
   uint64_t jobs = 0;
   for (const Row &row : rows_) {
     std::cout << std::setw(9) << row.jobs << " jobs: " << row.kind << '\n';
-    check(row.differences == 0, row.kind + ": " + std::to_string(row.differences) + " differences");
+    checks.expect(row.differences == 0, row.kind + ": " + std::to_string(row.differences) + " differences");
     jobs += row.jobs;
   }
   std::cout << std::setw(9) << jobs << " jobs in all\nnumber: times answered by read, by run\n";
   for (std::size_t n = 0; n < 24; ++n) {
     const uint64_t times = reached_.read[n] + reached_.run[n];
     std::cout << std::setw(6) << n << ": " << reached_.read[n] << ", " << reached_.run[n] << '\n';
-    if (enough_jobs) check(n == 23 ? times == 0 : times > 0, "number " + std::to_string(n) + " came " + std::to_string(times) + " times");
+    if (enough_jobs)
+      checks.expect(n == 23 ? times == 0 : times > 0, "number " + std::to_string(n) + " came " + std::to_string(times) + " times");
   }
-  std::cout << passed << " passed, " << failed << " failed\n";
-  return failed == 0 ? 0 : 1;
+  return checks.close();
 }
 
 } // namespace compare

@@ -1,12 +1,11 @@
 // What is measured is the same work: the plain interpreter and fishdavit_run agree on random bodies of plain instructions, and every load of
 // dispatches takes all its choices.
+#include "../checks.hpp"
 #include "dispatch_loads.hpp"
 #include "fishdavit.h"
 #include "plain_interpreter.hpp"
 
 #include <array>
-#include <cstdio>
-#include <cstdlib>
 #include <random>
 
 namespace {
@@ -17,13 +16,7 @@ constexpr uint64_t used_cells = 8;
 
 using Cells = std::array<uint32_t, 256>;
 
-int passed = 0;
-int failed = 0;
-
-void expect(bool holds, const std::string &what) {
-  holds ? ++passed : ++failed;
-  if (!holds) std::printf("FAILED: %s\n", what.c_str());
-}
+Checks checks;
 
 fishdavit_answer run(const std::vector<uint64_t> &table, const std::vector<uint8_t> &choices, uint32_t budget, Cells &cells) {
   static const uint8_t no_choice = 0;
@@ -65,24 +58,23 @@ void check_body(std::mt19937_64 &random) {
   const bool ended = end.number == 0;
   const bool same = answer.number == (ended ? 11 : end.number) && answer.body == (ended ? 0xff : 0) && answer.place == (ended ? 0 : end.place) &&
                     answer.instructions == budget - end.left && ours == theirs;
-  expect(same, "number " + std::to_string(answer.number) + " by fishdavit_run, " + std::to_string(end.number) + " by the plain interpreter");
+  checks.expect(same, "number " + std::to_string(answer.number) + " by fishdavit_run, " + std::to_string(end.number) + " by the plain interpreter");
 }
 
 void check_load(const DispatchLoad &load) {
   Cells cells = {};
   const fishdavit_answer answer = run(load.table, load.choices, 0xffffffff, cells);
-  expect(answer.number == 20 && answer.choices == load.choices.size(), load.name);
+  checks.expect(answer.number == 20 && answer.choices == load.choices.size(), load.name);
 }
 
 } // namespace
 
 int main() {
-  std::printf("seed %llu\n", static_cast<unsigned long long>(seed));
+  std::cout << "seed " << seed << '\n';
   std::mt19937_64 random(seed);
   for (int i = 0; i < bodies; ++i) check_body(random);
   for (const DispatchLoad &load : {delta_ring("ping-pong", 2), delta_ring("ring", 16), timed_waits(16), one_to_many(16), thousand_instructions(""),
                                    one_among(1, 32), one_among(16, 1)})
     check_load(load);
-  std::printf("%d passed, %d failed\n", passed, failed);
-  return failed == 0 ? 0 : 1;
+  return checks.close();
 }

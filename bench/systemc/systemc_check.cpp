@@ -1,5 +1,6 @@
 // Random designs on the reference kernel (Accellera SystemC) and by fishdavit_run under the dispatches that the kernel took: every number of
 // the answer and every cell must be the same. Wrong rules planted in the adapter must be found.
+#include "../checks.hpp"
 #include "on_kernel.hpp"
 #include "random_job.hpp"
 
@@ -85,7 +86,7 @@ bool agrees(const Job &job, Plant plant, Tally &tally, bool tell) {
   tally.add(answer);
   if (record.whole && same(answer, record.answer) && cells == record.cells) return true;
   if (!tell) return false;
-  std::printf("FAILED: the two differ on this job:\n%s", job_text(job, record).c_str());
+  std::printf("The two differ on this job:\n%s", job_text(job, record).c_str());
   print("kernel", record.answer);
   print("fishdavit", answer);
   if (!record.whole) std::printf("the kernel's run broke off\n");
@@ -94,21 +95,19 @@ bool agrees(const Job &job, Plant plant, Tally &tally, bool tell) {
   return false;
 }
 
-int passed = 0;
-int failed = 0;
+Checks checks;
 
 void check_designs(uint64_t seed, int count) {
   Tally tally;
   std::mt19937_64 random(seed);
-  for (int i = 0; i < count * orders && failed < 5; ++i) {
+  for (int i = 0; i < count * orders && checks.failed() < 5; ++i) {
     static Job job;
     if (i % orders == 0)
       job = random_job(random);
     else
       std::shuffle(job.order.begin(), job.order.end(), random);
-    const bool good = agrees(job, Plant::none, tally, true);
-    good ? ++passed : ++failed;
-    if (!good) std::printf("design %d, order %d of seed %llu\n", i / orders, i % orders, static_cast<unsigned long long>(seed));
+    checks.expect(agrees(job, Plant::none, tally, true),
+                  "design " + std::to_string(i / orders) + ", order " + std::to_string(i % orders) + " of seed " + std::to_string(seed));
   }
   std::printf("%d designs in %d orders, %llu dispatches, %llu instructions; numbers", count, orders,
               static_cast<unsigned long long>(tally.dispatches), static_cast<unsigned long long>(tally.instructions));
@@ -125,8 +124,7 @@ void check_plant(uint64_t seed, const Planted &planted) {
     found = !agrees(random_job(random), planted.plant, tally, false);
     ++tried;
   }
-  found ? ++passed : ++failed;
-  std::printf("%s: planted: %s: %s %d designs\n", found ? "ok" : "FAILED", planted.rule, found ? "found after" : "not found in", tried);
+  checks.tell(found, std::string("planted: ") + planted.rule + (found ? ": found after " : ": not found in ") + std::to_string(tried) + " designs");
 }
 
 } // namespace
@@ -138,8 +136,7 @@ int sc_main(int argc, char **argv) {
   std::fflush(stdout);
   check_designs(seed, count);
   for (const Planted &planted : plants) check_plant(seed, planted);
-  std::printf("%d passed, %d failed\n", passed, failed);
-  return failed == 0 ? 0 : 1;
+  return checks.close();
 }
 
 int main(int argc, char **argv) {
