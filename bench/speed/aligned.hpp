@@ -2,12 +2,9 @@
 // both are measured in all four places.
 #pragma once
 
-#include "fishdavit.h"
 #include "plain_interpreter.hpp"
+#include "run_of.hpp"
 
-#include <array>
-
-using Run = decltype(fishdavit_run);
 using Interpret = decltype(plain_interpret);
 
 extern "C" Run fishdavit_run_0, fishdavit_run_16, fishdavit_run_32, fishdavit_run_48;

@@ -1,5 +1,6 @@
 // Dispatches: fishdavit_run beside the same loads as C++ threads on the SystemC kernel, in one process, in turns, the best of several; of
 // fishdavit_run the mean over four places of the code.
+#include "aligned.hpp"
 #include "native_loads.hpp"
 #include "timing.hpp"
 #ifdef INDEPENDENT

@@ -1,7 +1,7 @@
 // Plain instructions: fishdavit_run beside a C++ interpreter of the same body, in one process, in turns, the best of several; the mean over
 // four places of the code.
+#include "aligned.hpp"
 #include "plain_loads.hpp"
-#include "run_of.hpp"
 #include "timing.hpp"
 
 #include <cstdio>

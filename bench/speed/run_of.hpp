@@ -1,10 +1,12 @@
 // One run of a table; the pointers of empty lists are valid ones, as the interface asks.
 #pragma once
 
-#include "aligned.hpp"
+#include "fishdavit.h"
 
+#include <array>
 #include <vector>
 
+using Run = decltype(fishdavit_run);
 using Cells = std::array<uint32_t, 256>;
 
 inline fishdavit_answer run_of(Run *run, const std::vector<uint64_t> &table, const std::vector<uint8_t> &choices, uint32_t budget, Cells &cells) {

@@ -2,10 +2,9 @@
 // dispatches takes all its choices.
 #include "../checks.hpp"
 #include "dispatch_loads.hpp"
-#include "fishdavit.h"
 #include "plain_interpreter.hpp"
+#include "run_of.hpp"
 
-#include <array>
 #include <random>
 
 namespace {
@@ -14,16 +13,7 @@ constexpr int bodies = 5000;
 constexpr uint64_t seed = 20261115;
 constexpr uint64_t used_cells = 8;
 
-using Cells = std::array<uint32_t, 256>;
-
 Checks checks;
-
-fishdavit_answer run(const std::vector<uint64_t> &table, const std::vector<uint8_t> &choices, uint32_t budget, Cells &cells) {
-  static const uint8_t no_choice = 0;
-  static const uint32_t no_input = 0;
-  return fishdavit_run(table.data(), table.size(), choices.empty() ? &no_choice : choices.data(), choices.size(), &no_input, 0, budget,
-                       cells.data(), cells.size());
-}
 
 // The unused fields of an op are zero: b for those that take a alone, d for gotos and tests.
 uint64_t random_frame(std::mt19937_64 &random, uint64_t length) {
@@ -53,7 +43,7 @@ void check_body(std::mt19937_64 &random) {
   for (uint64_t i = 0; i < length; ++i) design.main.push_back(random_frame(random, length));
   const uint32_t budget = static_cast<uint32_t>(random() % 300);
   Cells ours = {}, theirs = {};
-  const fishdavit_answer answer = run(table_of(design), {}, budget, ours);
+  const fishdavit_answer answer = run_of(fishdavit_run, table_of(design), {}, budget, ours);
   const PlainEnd end = plain_interpret(design.main.data(), static_cast<uint32_t>(length), budget, theirs.data());
   const bool ended = end.number == 0;
   const bool same = answer.number == (ended ? 11 : end.number) && answer.body == (ended ? 0xff : 0) && answer.place == (ended ? 0 : end.place) &&
@@ -63,7 +53,7 @@ void check_body(std::mt19937_64 &random) {
 
 void check_load(const DispatchLoad &load) {
   Cells cells = {};
-  const fishdavit_answer answer = run(load.table, load.choices, 0xffffffff, cells);
+  const fishdavit_answer answer = run_of(fishdavit_run, load.table, load.choices, 0xffffffff, cells);
   checks.expect(answer.number == 20 && answer.choices == load.choices.size(), load.name);
 }
 
