@@ -3,6 +3,7 @@
 
 #include "../independent/image.hpp"
 #include "../independent/run.hpp"
+#include "../job_text.hpp"
 
 #include <optional>
 #include <string>
@@ -34,9 +35,6 @@ struct Made {
   Case job;
   Expected expected;
 };
-
-// A table as an image's lines.
-std::string lines_of(const std::vector<uint64_t> &table);
 
 // A case around that table: the text holds its lines, and every call has room enough.
 Case case_of(std::vector<uint64_t> table);

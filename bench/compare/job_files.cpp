@@ -11,9 +11,8 @@ const std::string looms_image = "a002020000000001\na100000000000001\na1000000000
                                 "6001000000000000\n6200000000000000\n6000000000000000\n6201000000000000\n";
 const std::string looms_printed = "00 ff 0000 00000000 00000003 0002 0000 0003\n00000000\n";
 
-// The printed line of a refusal at a line below 10.
 std::string refused(uint32_t number, uint32_t line) {
-  return "0" + std::to_string(number) + " ff 000" + std::to_string(line) + " 00000000 00000000 0000 0000 0000\n";
+  return hex_of(number, 2) + " ff " + hex_of(line, 4) + " 00000000 00000000 0000 0000 0000\n";
 }
 
 std::string digits(Random &r, std::size_t count) {

@@ -4,6 +4,7 @@
 
 #include <systemc>
 
+#include <cstdio>
 #include <deque>
 #include <unistd.h>
 

@@ -7,6 +7,7 @@
 #include <systemc>
 
 #include <algorithm>
+#include <cstdio>
 #include <cstdlib>
 #include <cstring>
 #include <map>
