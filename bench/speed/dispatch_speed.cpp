@@ -1,11 +1,9 @@
-// Dispatches: fishdavit_run beside the same loads as C++ threads on the SystemC kernel, in one process, in turns, the best of several; of
-// fishdavit_run the mean over four places of the code.
+// Dispatches: fishdavit_run beside the same loads as C++ threads on the SystemC kernel and beside the independent simulator, in one process,
+// in turns, the best of several; of fishdavit_run the mean over four places of the code.
+#include "../independent/run.hpp"
 #include "aligned.hpp"
 #include "native_loads.hpp"
 #include "timing.hpp"
-#ifdef INDEPENDENT
-#include "../independent/run.hpp"
-#endif
 
 #include <cstdio>
 #include <cstdlib>
@@ -21,7 +19,6 @@ struct Row {
   DispatchLoad load;
   NativeLoad *native;
   std::size_t first;
-  std::size_t past;
 };
 
 fishdavit_answer run_load(Run *run, const DispatchLoad &load) {
@@ -54,15 +51,12 @@ void add_empty(std::vector<Work> &works, const DispatchLoad &load) {
   });
 }
 
-// The independent simulator, where it stands beside this folder: a further piece of work, and a further column.
-void add_independent([[maybe_unused]] std::vector<Work> &works, [[maybe_unused]] const DispatchLoad &load) {
-#ifdef INDEPENDENT
+void add_independent(std::vector<Work> &works, const DispatchLoad &load) {
   independent::Job job;
   job.budget = 0xffffffff;
   job.choices = load.choices;
   job.table = load.table;
   works.push_back([job] { return static_cast<double>(independent::run(job, 256).answer.choices); });
-#endif
 }
 
 void add(std::vector<Work> &works, Row &row) {
@@ -74,21 +68,14 @@ void add(std::vector<Work> &works, Row &row) {
   } else {
     add_empty(works, row.load);
   }
-  row.past = works.size();
 }
 
 void print_beside(const std::vector<Row> &rows, const std::vector<double> &best) {
-  std::printf("%-40s %10s %11s %6s", "ns a dispatch", "fishdavit", "SystemC", "ratio");
-#ifdef INDEPENDENT
-  std::printf(" %11s %6s", "independent", "ratio");
-#endif
-  std::printf("\n");
+  std::printf("%-40s %10s %11s %6s %11s %6s\n", "ns a dispatch", "fishdavit", "SystemC", "ratio", "independent", "ratio");
   for (const Row &row : rows) {
     if (row.native == nullptr) continue;
-    const double ours = mean_of(best, row.first, places);
-    std::printf("%-40s %10.1f", row.load.name.c_str(), ours);
-    for (std::size_t k = row.first + places; k < row.past; ++k) std::printf(" %11.1f %6.2f", best[k], ours / best[k]);
-    std::printf("\n");
+    const double ours = mean_of(best, row.first, places), native = best[row.first + places], simulator = best[row.first + places + 1];
+    std::printf("%-40s %10.1f %11.1f %6.2f %11.1f %6.2f\n", row.load.name.c_str(), ours, native, ours / native, simulator, ours / simulator);
   }
 }
 
@@ -110,15 +97,15 @@ int sc_main(int, char **) {
   NativeThousand compiled("compiled", false);
   NativeThousand interpreted("interpreted", true);
   sc_core::sc_start(sc_core::SC_ZERO_TIME);
-  std::vector<Row> rows = {{delta_ring("delta ping-pong of 2", 2), &two, 0, 0},
-                           {delta_ring("delta ring of 16", 16), &sixteen, 0, 0},
-                           {timed_waits(16), &timed, 0, 0},
-                           {one_to_many(16), &many, 0, 0},
-                           {thousand_instructions(", compiled"), &compiled, 0, 0},
-                           {thousand_instructions(", interpreted"), &interpreted, 0, 0}};
-  for (const uint8_t threads : {1, 2, 4, 8, 16}) rows.push_back({one_among(threads, 1), nullptr, 0, 0});
-  for (const uint8_t events : {2, 4, 8, 16, 32}) rows.push_back({one_among(1, events), nullptr, 0, 0});
-  rows.push_back({one_among(16, 32), nullptr, 0, 0});
+  std::vector<Row> rows = {{delta_ring("delta ping-pong of 2", 2), &two, 0},
+                           {delta_ring("delta ring of 16", 16), &sixteen, 0},
+                           {timed_waits(16), &timed, 0},
+                           {one_to_many(16), &many, 0},
+                           {thousand_instructions(", compiled"), &compiled, 0},
+                           {thousand_instructions(", interpreted"), &interpreted, 0}};
+  for (const uint8_t threads : {1, 2, 4, 8, 16}) rows.push_back({one_among(threads, 1), nullptr, 0});
+  for (const uint8_t events : {2, 4, 8, 16, 32}) rows.push_back({one_among(1, events), nullptr, 0});
+  rows.push_back({one_among(16, 32), nullptr, 0});
   std::vector<Work> works;
   for (Row &row : rows) add(works, row);
   const std::vector<double> best = best_of(rounds, works);
