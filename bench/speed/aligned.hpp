@@ -1,5 +1,5 @@
-// The run and the plain interpreter four times each, the copies 16 bytes apart modulo 64: where code lies alone moves its time by a fifth, so
-// both are measured in all four places.
+// The run and the plain interpreter four times each, the copies 16 bytes apart modulo 64: where code lies alone moves its time by up to a third,
+// so both are measured in all four places.
 #pragma once
 
 #include "plain_interpreter.hpp"
