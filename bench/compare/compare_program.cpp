@@ -90,7 +90,7 @@ int main(int argc, char **argv) try {
   std::vector<Group> groups = {{"document 01's job cut at every position", "-cut.job", cut_files(), {}},
                                {"bad job lines on purpose", "-lines.job", bad_line_files(r, jobs / 3), {}},
                                {"damaged job files", "-damaged.job", damaged_files(r, jobs / 3), {}},
-                               {"more input than is needed", "-long.job", long_files(), {}},
+                               {"the greatest job, and more input than is needed", "-long.job", long_files(), {}},
                                {"random jobs", "-random.job", drawn_files(seed, jobs), {}}};
   for (Group &group : groups) compare_group(group, program, folder);
   const bool alike = checks.failed() == 0; // else a planted rule would not be what is noticed

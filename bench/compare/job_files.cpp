@@ -1,6 +1,7 @@
 #include "job_files.hpp"
 
 #include "drawn.hpp"
+#include "plan.hpp"
 
 namespace compare {
 
@@ -35,6 +36,26 @@ std::string bad_line(Random &r, uint32_t line) {
     return text;
   }
   return digits(r, each * ((line == 1 ? 4096 : 1024) + (r.chance(700) ? 1 : r.between(1, 100))));
+}
+
+// Every count at its limit. Main takes all but one of the inputs and starts; each thread ends at its first dispatch, so that most choices are
+// left, and the longest answer follows.
+std::string greatest_job() {
+  Plan plan(16, 32, 16, 256);
+  plan.bodies[0].assign(1023, input(255));
+  plan.bodies[0].push_back(start());
+  Case c = case_of(plan.table());
+  c.job.budget = 1024;
+  c.job.inputs.assign(1024, 0x89abcdef);
+  for (uint8_t k = 0; k < 16; ++k) c.job.choices.push_back(k);
+  c.job.choices.resize(4096);
+  return job_file(c);
+}
+
+std::string greatest_printed() {
+  std::string text = "00 ff 0000 00000000 00000400 0010 03ff 0000\n";
+  for (int cell = 0; cell < 255; ++cell) text += "00000000\n";
+  return text + "89abcdef\n";
 }
 
 std::string good_line(Random &r, uint32_t line) {
@@ -106,15 +127,24 @@ std::vector<JobFile> damaged_files(Random &r, std::size_t count) {
   return files;
 }
 
+// The program needn't read further than can matter, and the greatest job, of 34,381 bytes, says how far that is. With room for fewer bytes it
+// would take this job for a cut one (1 or 6), which the job itself shows. With room for just as many it wouldn't see that something follows and
+// would run the job where 7 is due, which the job and one byte more show.
 std::vector<JobFile> long_files() {
   const std::string much(3000000, '0');
-  return {{looms_lines + looms_image + much, refused(7, 9), std::nullopt},
-          {looms_lines + looms_image + much, refused(7, 9), std::nullopt}, // an odd number: through a pipe
-          {much, refused(9, 0), std::nullopt},
-          {"00000064\n" + much, refused(9, 1), std::nullopt},
-          {"00000064\n" + much + "\n\n" + looms_image, refused(9, 1), std::nullopt},
-          {"00000064\n0001\n" + much + '\n' + looms_image, refused(9, 2), std::nullopt},
-          {looms_lines + std::string(100000, '\n'), refused(1, 0), std::nullopt}};
+  const std::string greatest = greatest_job();
+  const std::vector<JobFile> once = {{greatest, greatest_printed(), std::nullopt},
+                                     {greatest + '0', refused(7, 1058), std::nullopt},
+                                     {greatest + much, refused(7, 1058), std::nullopt},
+                                     {looms_lines + looms_image + much, refused(7, 9), std::nullopt},
+                                     {much, refused(9, 0), std::nullopt},
+                                     {"00000064\n" + much, refused(9, 1), std::nullopt},
+                                     {"00000064\n" + much + "\n\n" + looms_image, refused(9, 1), std::nullopt},
+                                     {"00000064\n0001\n" + much + '\n' + looms_image, refused(9, 2), std::nullopt},
+                                     {looms_lines + std::string(100000, '\n'), refused(1, 0), std::nullopt}};
+  std::vector<JobFile> files;
+  for (const JobFile &file : once) files.insert(files.end(), 2, file); // the one with the odd number comes through a pipe
+  return files;
 }
 
 } // namespace compare

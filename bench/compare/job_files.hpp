@@ -20,6 +20,6 @@ std::vector<JobFile> drawn_files(uint64_t seed, std::size_t count);
 std::vector<JobFile> bad_line_files(Random &r, std::size_t count); // 9 at a known line
 std::vector<JobFile> cut_files();                                  // document 01's job, cut at every position
 std::vector<JobFile> damaged_files(Random &r, std::size_t count);
-std::vector<JobFile> long_files(); // far more bytes than are needed to decide
+std::vector<JobFile> long_files(); // the greatest job, and more bytes than are needed to decide
 
 } // namespace compare
