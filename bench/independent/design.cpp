@@ -40,13 +40,15 @@ uint32_t Inspector::take_instruction(const Frame &f) {
   Body &body = design_.bodies[filling_];
   const Op *const op = op_of(f.op);
   if (op == nullptr) return 4;
-  const bool fields_fit =
-      fits(op->d, f.d, f, body) && fits(op->a, f.a, f, body) && fits(op->b, f.b, f, body) && fits(op->imm, f.imm, f, body);
   if (!may_hold(body.kind, f.op)) return 4;
-  if (!fields_fit) return 5;
+  if (!fields_fit(*op, f, body)) return 5;
   body.code.push_back(f);
   skip_full_bodies();
   return 0;
+}
+
+bool Inspector::fields_fit(const Op &op, const Frame &f, const Body &body) const {
+  return fits(op.d, f.d, f, body) && fits(op.a, f.a, f, body) && fits(op.b, f.b, f, body) && fits(op.imm, f.imm, f, body);
 }
 
 bool Inspector::fits(Use use, uint32_t field, const Frame &f, const Body &body) const {

@@ -36,6 +36,7 @@ private:
   uint32_t take_header(const Frame &f);
   uint32_t take_body(const Frame &f);
   uint32_t take_instruction(const Frame &f);
+  bool fields_fit(const Op &op, const Frame &f, const Body &body) const;
   bool fits(Use use, uint32_t field, const Frame &f, const Body &body) const;
   BodyKind kind_of(std::size_t body) const;
   void skip_full_bodies();
