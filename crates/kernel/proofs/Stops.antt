@@ -1,8 +1,10 @@
 -- An instruction stops a run with one of the numbers that specs/Demand.antt names, and with no other.
-use Prim.Native.Nat.{ℕ, zero, suc, _/_, _%_}
+use Prim.Native.Nat.{ℕ, zero, suc, _+_, _/_, _%_, _<_}
 use mathlib.Core.Path.{_≡_, refl}
+use mathlib.Core.Logic.{_⊎_, inl, inr}
 use mathlib.Core.Bool.{Bool, true, false, _&&_}
 use mathlib.Core.List.{List, [], _∷_}
+use native.Mathlib.Omega.{arith}
 use lib.Dec.{eqb, ltb, leb}
 use lib.IntN.{ℤ, _+ℤ_, _-ℤ_, _*ℤ_}
 use lib.Signed.{quotZ, remZ}
@@ -10,19 +12,25 @@ use lib.ListN.{getD}
 use Rattle.laws.specs.Choice.{if_then_else_}
 use Rattle.word.specs.Word.{Result, value, stop, quotU, remU, signed, bitsOf, inRange, narrow, addS, subS, mulS, divisionS, quotS, remS}
 use Rattle.frame.specs.declared.Frame.{Frame}
-use Rattle.frame.specs.Ops.{Meaning, takesImm, takesInput, one, two, may, load, store, goto, gotoIf, holds, waitEvent, waitTime, notify, notifyAfter, request, suspend, resume, startLimit, start, unknown, Row, ops, lookMeaning, meaningOf}
+use Rattle.frame.specs.declared.Known.the-variants.{Op, Unknown}
+use Rattle.frame.specs.Fault.{instructionFault}
+use Rattle.image.specs.Layout.{frame, counts, bodies, len, first, kindOf}
+use Rattle.image.specs.Judge.{judged}
+use Rattle.image.proofs.Accepted.{fine-instruction}
+use Rattle.frame.specs.Ops.{Meaning, takesImm, takesInput, one, two, may, load, store, goto, gotoIf, holds, waitEvent, waitTime, notify, notifyAfter, request, suspend, resume, startLimit, start, unknown, Row, ops, look, lookMeaning, usesOf, meaningOf}
 use Rattle.kernel.specs.Search.{Found, none, found}
+use Rattle.kernel.specs.Design.{Table, threads, updates, lengthOf, instruction}
 use Rattle.kernel.specs.Kernel.{Due, never, delta, at, afterDelay, till, Deed, asks, waits, Stage, before, during, past}
 use Rattle.kernel.specs.Effect.{View, Effect, stops, sets, takes, goes, does, begins, stopIf, setsTo, takesTo, goesIf, startsIn, mainPast, isNever, asksFor, effect}
-use Rattle.kernel.specs.Demand.{isStop}
+use Rattle.kernel.specs.Demand.{isStop, Stops}
 
-abbrev pub Right : Effect → Type 0
-Right (stops n) = isStop n ≡ true
-Right (sets d x) = Unit {0}
-Right (takes d x) = Unit {0}
-Right (goes p) = Unit {0}
-Right (does x) = Unit {0}
-Right (begins l) = Unit {0}
+abbrev pub Right : Table → Effect → Type 0
+Right t (stops n) = Stops t n
+Right t (sets d x) = Unit {0}
+Right t (takes d x) = Unit {0}
+Right t (goes p) = Unit {0}
+Right t (does x) = Unit {0}
+Right t (begins l) = Unit {0}
 
 -- What the op table holds -----------------------------------------------------------------------------------------
 
@@ -60,7 +68,7 @@ Sound suspend = Unit {0}
 Sound resume = Unit {0}
 Sound startLimit = Unit {0}
 Sound start = Unit {0}
-Sound unknown = Unit {0}
+Sound unknown = ⊥
 
 -- each row of a list of ops
 infixr 5 _&_
@@ -68,13 +76,14 @@ data Sounds : List Row → Type 0 where
   end : Sounds []
   _&_ : {r : Row} {rs : List Row} → Sound (r .meaning) → Sounds rs → Sounds (r ∷ rs)
 
-by-row : (b : Bool) (m n : Meaning) → Sound m → Sound n → Sound (if b then m else n)
-by-row true m n p q = p
-by-row false m n p q = q
-
-found-sound : (rs : List Row) (n : ℕ) → Sounds rs → Sound (lookMeaning rs n)
-found-sound [] n h = tt
-found-sound (r ∷ rs) n (p & h) = by-row (eqb n (r .number)) (r .meaning) (lookMeaning rs n) p (found-sound rs n h)
+-- what is found in the list is sound, or nothing is found
+look-sound : (rs : List Row) (n : ℕ) → Sounds rs → Sound (lookMeaning rs n) ⊎ ((lookMeaning rs n ≡ unknown) × (look rs n ≡ Unknown))
+look-sound [] n end = inr (refl, refl)
+look-sound (r ∷ rs) n (p & h) = by (eqb n (r .number)) (look-sound rs n h)
+  where
+    by : (b : Bool) → Sound (lookMeaning rs n) ⊎ ((lookMeaning rs n ≡ unknown) × (look rs n ≡ Unknown)) → Sound (if b then r .meaning else lookMeaning rs n) ⊎ (((if b then r .meaning else lookMeaning rs n) ≡ unknown) × ((if b then Op (r .uses) else look rs n) ≡ Unknown))
+    by true q = inl p
+    by false q = q
 
 right-quotient : (x y : ℕ) → RightResult (quotU x y)
 unfolding quotU
@@ -122,68 +131,84 @@ sound-ops =
 
 -- What an instruction comes to ------------------------------------------------------------------------------------
 
-right-if : (b : Bool) (n : ℕ) (x : Effect) → isStop n ≡ true → Right x → Right (stopIf b n x)
-right-if true n x q h = q
-right-if false n x q h = h
+module _ (t : Table) where
+  right-if : (b : Bool) (n : ℕ) (x : Effect) → isStop n ≡ true → Right t x → Right t (stopIf b n x)
+  right-if true n x q h = inl q
+  right-if false n x q h = h
 
-right-asks : (a : Bool) (n : ℕ) (d : Due) (x : Deed) → Right (asksFor a n d x)
-right-asks a n never x = tt
-right-asks a n delta x = tt
-right-asks a n (at u) x = right-if (ltb 4294967295 u) 17 _ refl (right-if (a && leb 48 n) 23 _ refl tt)
+  right-asks : (a : Bool) (n : ℕ) (d : Due) (x : Deed) → Right t (asksFor a n d x)
+  right-asks a n never x = tt
+  right-asks a n delta x = tt
+  right-asks a n (at u) x = right-if (ltb 4294967295 u) 17 _ refl (right-if (a && leb 48 n) 23 (does x) refl tt)
 
-right-sets : (d : ℕ) (r : Result) → RightResult r → Right (setsTo d r)
-right-sets d (value x) q = tt
-right-sets d (stop n) q = q
+  right-sets : (d : ℕ) (r : Result) → RightResult r → Right t (setsTo d r)
+  right-sets d (value x) q = tt
+  right-sets d (stop n) q = inl q
 
-right-takes : (d : ℕ) (f : Found) → Right (takesTo d f)
-right-takes d none = refl
-right-takes d (found x) = tt
+  right-takes : (d : ℕ) (f : Found) → Right t (takesTo d f)
+  right-takes d none = inl refl
+  right-takes d (found x) = tt
 
-right-goes : (x p q : ℕ) → Right (goesIf x p q)
-right-goes zero p q = tt
-right-goes (suc x) p q = tt
+  right-goes : (x p q : ℕ) → Right t (goesIf x p q)
+  right-goes zero p q = tt
+  right-goes (suc x) p q = tt
 
-right-starts : (s : Stage) (l : Found) → Right (startsIn s l)
-right-starts before l = tt
-right-starts during l = refl
-right-starts (past n) l = refl
+  right-starts : (s : Stage) (l : Found) → Right t (startsIn s l)
+  right-starts before l = tt
+  right-starts during l = inl refl
+  right-starts (past n) l = inl refl
 
-module _ (v : View) (i : Frame) where
-  abbrev A : ℕ
-  A = getD (v .cells) (i .a) 0
+  module _ (v : View) (i : Frame) where
+    abbrev A : ℕ
+    A = getD (v .cells) (i .a) 0
 
-  abbrev B : ℕ
-  B = getD (v .cells) (i .b) 0
+    abbrev B : ℕ
+    B = getD (v .cells) (i .b) 0
 
-  abbrev late : Bool
-  late = mainPast (v .body) (v .kernel .stage)
+    abbrev late : Bool
+    late = mainPast (v .body) (v .kernel .stage)
 
-  abbrev due : Due
-  due = afterDelay (v .kernel .now) A
+    abbrev due : Due
+    due = afterDelay (v .kernel .now) A
 
-  right : (m : Meaning) → Sound m → Right (effect v i m)
-  unfolding effect
-  right (may f) h = right-sets (i .d) (f A B) (h A B)
-  right (holds n) h = right-if (eqb A 0) n _ h tt
-  right takesImm h = tt
-  right takesInput h = right-takes (i .d) (v .input)
-  right (one f) h = tt
-  right (two f) h = tt
-  right load h = right-if (leb (i .b) A) 16 _ refl tt
-  right store h = right-if (leb (i .b) A) 16 _ refl tt
-  right goto h = tt
-  right gotoIf h = right-goes A (i .imm) (suc (v .place))
-  right waitEvent h = tt
-  right waitTime h = right-asks true (v .times) due (waits (till due))
-  right notify h = right-if late 18 _ refl tt
-  right notifyAfter h = right-if late 18 _ refl (right-asks (isNever (v .kernel .pends (i .d))) (v .times) due (asks (i .d) due))
-  right request h = right-if late 18 _ refl tt
-  right suspend h = right-if late 18 _ refl tt
-  right resume h = right-if late 18 _ refl tt
-  right startLimit h = right-starts (v .kernel .stage) (found (i .imm))
-  right start h = right-starts (v .kernel .stage) none
-  right unknown h = refl
+    right : (m : Meaning) → Sound m → Right t (effect v i m)
+    unfolding effect
+    right (may f) h = right-sets (i .d) (f A B) (h A B)
+    right (holds n) h = right-if (eqb A 0) n _ h tt
+    right takesImm h = tt
+    right takesInput h = right-takes (i .d) (v .input)
+    right (one f) h = tt
+    right (two f) h = tt
+    right load h = right-if (leb (i .b) A) 16 _ refl tt
+    right store h = right-if (leb (i .b) A) 16 _ refl tt
+    right goto h = tt
+    right gotoIf h = right-goes A (i .imm) (suc (v .place))
+    right waitEvent h = tt
+    right waitTime h = right-asks true (v .times) due (waits (till due))
+    right notify h = right-if late 18 _ refl tt
+    right notifyAfter h = right-if late 18 _ refl (right-asks (isNever (v .kernel .pends (i .d))) (v .times) due (asks (i .d) due))
+    right request h = right-if late 18 _ refl tt
+    right suspend h = right-if late 18 _ refl tt
+    right resume h = right-if late 18 _ refl tt
+    right startLimit h = right-starts (v .kernel .stage) (found (i .imm))
+    right start h = right-starts (v .kernel .stage) none
+    right unknown h = absurd h
 
-  pub right-effect : Right (effect v i (meaningOf (i .op)))
-  unfolding meaningOf
-  right-effect = right (lookMeaning ops (i .op)) (found-sound ops (i .op) sound-ops)
+  -- an accepted table has no unknown op in its bodies
+  no-unknown : (k p : ℕ) → k < threads t + updates t + 1 → p < lengthOf t k → usesOf (instruction t k p .op) ≡ Unknown → judged t .number ≡ 0 → ⊥
+  unfolding instructionFault bodies
+  no-unknown k p l m q good =
+      let e : instructionFault (counts t) (kindOf (counts t) k) (len t k) (frame t (first t k + p)) ≡ 0 = fine-instruction t good k p (omega arith) m in
+      let z : _≡_ {A = ℕ} 4 0 = rw q at e in
+      omega arith
+
+  pub right-instruction : (v : View) (k p : ℕ) → k < threads t + updates t + 1 → p < lengthOf t k → Right t (effect v (instruction t k p) (meaningOf (instruction t k p .op)))
+  unfolding meaningOf usesOf effect
+  right-instruction v k p l m = by (look-sound ops (instruction t k p .op) sound-ops)
+    where
+      i : Frame
+      i = instruction t k p
+
+      by : Sound (lookMeaning ops (i .op)) ⊎ ((lookMeaning ops (i .op) ≡ unknown) × (look ops (i .op) ≡ Unknown)) → Right t (effect v i (lookMeaning ops (i .op)))
+      by (inl h) = right v i (lookMeaning ops (i .op)) h
+      by (inr e) = rw (e .0) (inr (refl, no-unknown k p l m (e .1)))

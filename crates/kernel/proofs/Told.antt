@@ -2,6 +2,7 @@
 use Prim.Native.Nat.{ℕ, zero, suc, _<_, _^_}
 use mathlib.Core.Path.{_≡_, refl, ap, _∙_, sym, subst}
 use mathlib.Core.Bool.{Bool, true, false, true≢false}
+use mathlib.Core.Logic.{inl}
 use mathlib.Core.List.{List, _∷_, _++_, append-assoc}
 use borrow.Author.Tests.{le-ltb, ltb-true}
 use Rattle.laws.specs.Choice.{if_then_else_}
@@ -27,7 +28,7 @@ use Rattle.kernel.proofs.Enough.{enough}
 use Rattle.kernel.proofs.Words.{thread-ended, time-now, stage-now, runnable-runs}
 use Rattle.kernel.proofs.Ahead.{Allowed, allowed}
 use Rattle.kernel.proofs.Rightly.{Standing, some-runnable, Inv, inv-step}
-use Rattle.kernel.proofs.Stops.{Right, right-effect}
+use Rattle.kernel.proofs.Stops.{Right, right-instruction}
 
 -- Serving counts as nothing --------------------------------------------------------------------------------------
 
@@ -105,7 +106,7 @@ module _ (j : Job) (s : State) (c : CountsOf (s .machine) (s .history)) where
   abbrev IsDue : Body → Type 0
   IsDue b = m .places (number t b) < lengthOf t (number t b)
 
-  performs : (b : Body) (x : Effect) (v : ℕ) (g : Stage) → Allowed v g x → Right x → IsDue b → Fits t (kernel h) (running b) → TellsOf (perform j s b x)
+  performs : (b : Body) (x : Effect) (v : ℕ) (g : Stage) → Allowed v g x → Right t x → IsDue b → Fits t (kernel h) (running b) → TellsOf (perform j s b x)
   unfolding perform count
   performs b (stops n) v g a r d f = record { counts = c; why = stopped (body-there t (kernel h) b f) d r }
   performs b (sets d x) v g a r l f = record { counts = record { instructions = ap suc (c .instructions); choices = c .choices; inputs = c .inputs }; why = tt }
@@ -120,7 +121,7 @@ module _ (j : Job) (s : State) (c : CountsOf (s .machine) (s .history)) where
   obeys : (b : Body) → IsDue b → Fits t (kernel h) (running b) → TellsOf (perform j s b (effectOf j s b))
   obeys b d f =
       let i : Frame = instruction t (number t b) (m .places (number t b)) in
-      performs b (effectOf j s b) _ _ (allowed (view j s b) i (meaningOf (i .op))) (right-effect (view j s b) i) d f
+      performs b (effectOf j s b) _ _ (allowed (view j s b) i (meaningOf (i .op))) (right-instruction t (view j s b) (number t b) (m .places (number t b)) (body-there t (kernel h) b f) d) d f
 
   main-ends : (g : Stage) → clock h .stage ≡ g → (clock h .stage ≡ during → ⊥) → Why j h (phaseNumber j s g) 0xff 0
   main-ends before q n = no-start q
@@ -130,7 +131,7 @@ module _ (j : Job) (s : State) (c : CountsOf (s .machine) (s .history)) where
   tells-branch : (a : Control) (o : Out) → Branch j s a o → Rightly t h → Fits t (kernel h) a → Standing t h a → WhyAt j h a → TellsOf o
   unfolding count
   tells-branch a o (B.obeys b q r) p f g y = obeys b (ltb-true _ _ q) f
-  tells-branch a o (B.unpaid b q r) p f g y = performs b (stops 22) 0 before tt refl (ltb-true _ _ q) f
+  tells-branch a o (B.unpaid b q r) p f g y = performs b (stops 22) 0 before tt (inl refl) (ltb-true _ _ q) f
   tells-branch a o (B.main-ends q) p f g y = record { counts = c; why = main-ends (kernel h .stage) (sym (stage-now h)) g }
   tells-branch a o (B.thread-ends i q) p f g y = record { counts = record { instructions = c .instructions; choices = c .choices; inputs = c .inputs }; why = tt }
   tells-branch a o (B.update-ends u q) p f g y = record { counts = record { instructions = c .instructions; choices = c .choices; inputs = c .inputs }; why = tt }

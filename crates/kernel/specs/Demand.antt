@@ -2,9 +2,9 @@
 use Prim.Native.Nat.{ℕ, _+_, _≤_, _<_}
 use mathlib.Core.Path.{_≡_}
 use mathlib.Core.Bool.{Bool, true, _&&_, _||_}
-use mathlib.Core.Logic.{_↔_}
+use mathlib.Core.Logic.{_↔_, _⊎_}
 use mathlib.Core.List.{List, [], _∷_}
-use lib.Dec.{eqb, leb}
+use lib.Dec.{leb}
 use lib.ListN.{length}
 use Rattle.image.specs.Limits.{mostCells, mostChoices, mostInputs}
 use Rattle.image.specs.Judge.{judged}
@@ -131,14 +131,18 @@ pub record Told (t : Table) (h : History) (a : Answer) : Type 0 where
   pub inputs : a .inputs ≡ taken h
   pub threads : a .threads ≡ unended t h
 
--- the numbers with which an instruction stops a run: 12 to 19, 22 and 23; 4 where a table that the judge refuses holds an unknown op
+-- the numbers with which an instruction stops a run: 12 to 19, 22 and 23
 abbrev pub isStop : ℕ → Bool
-isStop n = (leb 12 n && leb n 19) || ((leb 22 n && leb n 23) || eqb n 4)
+isStop n = (leb 12 n && leb n 19) || (leb 22 n && leb n 23)
+
+-- and 4, where a table that the judge refuses holds an unknown op
+abbrev pub Stops : Table → ℕ → Type 0
+Stops t n = (isStop n ≡ true) ⊎ ((n ≡ 4) × (judged t .number ≡ 0 → ⊥))
 
 -- why a run is over, with which number, body and place: an instruction of a body stopped it; or none, with ff and 0: main came to its
 -- end, after the phase with the phase's number, or with no phase; the choices were used up; or the next one names no runnable thread
 pub data Why (j : Job) (h : History) : (n b p : ℕ) → Type 0 where
-  stopped : {n b p : ℕ} → b < threads (j .table) + updates (j .table) + 1 → p < lengthOf (j .table) b → isStop n ≡ true → Why j h n b p
+  stopped : {n b p : ℕ} → b < threads (j .table) + updates (j .table) + 1 → p < lengthOf (j .table) b → Stops (j .table) n → Why j h n b p
   phase-over : {n : ℕ} → clock h .stage ≡ past n → Why j h n 0xff 0
   no-start : clock h .stage ≡ before → Why j h 11 0xff 0
   none-left : choice j h ≡ none → SomeRunnable (j .table) h → Why j h 20 0xff 0
