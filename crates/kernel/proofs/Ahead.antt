@@ -1,11 +1,12 @@
--- What an instruction asks for lies ahead of now, and a start is made only before the phase; so what stands due lies ahead.
+-- What an instruction asks for lies ahead of now and not above 4,294,967,295, and a start is made only before the phase; so what stands due lies ahead.
 use Prim.Native.Nat.{ℕ, zero, suc, _<_}
-use mathlib.Core.Path.{_≡_, refl, sym, subst}
-use mathlib.Core.Bool.{Bool, true, false}
+use mathlib.Core.Path.{_≡_, refl, subst}
+use mathlib.Core.Bool.{Bool, true, false, _&&_}
 use mathlib.Core.Logic.{_⊎_, inl, inr}
 use mathlib.Core.List.{_∷_}
 use native.Mathlib.Omega.{arith}
-use lib.Dec.{eqb, leb}
+use lib.Dec.{eqb, ltb, leb}
+use borrow.Author.Tests.{ltb-false}
 use lib.ListN.{getD}
 use Rattle.word.specs.Word.{Result, value, stop}
 use Rattle.frame.specs.declared.Frame.{Frame}
@@ -16,14 +17,19 @@ use Rattle.kernel.specs.Kernel.{Due, never, delta, at, earlier, afterDel
 use Rattle.kernel.specs.Pending.{dueOf, resumeDue}
 use Rattle.kernel.specs.Effect.{View, Effect, stops, sets, takes, goes, does, begins, stopIf, setsTo, takesTo, goesIf, startsIn, mainPast, isNever, asksFor, effect}
 use Rattle.kernel.specs.Words.{alike, clock, Work, event, wait, resume, Within}
-use Rattle.kernel.proofs.Asking.{asks-or-stops}
 use Rattle.kernel.proofs.Words.{PendStep, pend-drops, pend-adds, pend-stays, pend-step, earlier-pick, WaitStep, wait-begins, wait-ends, wait-stays, wait-step}
 use Rattle.kernel.proofs.Due.{dueIn}
+
+-- not above 4,294,967,295
+abbrev InRange : Due → Type 0
+InRange never = Unit {0}
+InRange delta = Unit {0}
+InRange (at u) = u < 4294967296
 
 abbrev pub Ahead : ℕ → Due → Type 0
 Ahead n never = Unit {0}
 Ahead n delta = Unit {0}
-Ahead n (at u) = n < u
+Ahead n (at u) = (n < u) × (u < 4294967296)
 
 abbrev pub AheadDeed : ℕ → Deed → Type 0
 AheadDeed n nothing = Unit {0}
@@ -50,12 +56,14 @@ module _ (n : ℕ) (s : Stage) where
   by-stop true m x h = tt
   by-stop false m x h = h
 
-  by-asks : (a : Bool) (m : ℕ) (d : Due) (x : Deed) → Allowed n s (does x) → Allowed n s (asksFor a m d x)
-  by-asks a m d x h = go (asks-or-stops a m d x)
+  by-asks : (a : Bool) (m : ℕ) (d : Due) (x : Deed) → (InRange d → Allowed n s (does x)) → Allowed n s (asksFor a m d x)
+  by-asks a m never x h = h tt
+  by-asks a m delta x h = h tt
+  by-asks a m (at u) x h = go (ltb 4294967295 u) refl
     where
-      go : (asksFor a m d x ≡ does x) ⊎ ((v : ℕ) × (asksFor a m d x ≡ stops v)) → Allowed n s (asksFor a m d x)
-      go (inl e) = subst (Allowed n s) (sym e) h
-      go (inr w) = subst (Allowed n s) (sym (w .1)) tt
+      go : (b : Bool) → ltb 4294967295 u ≡ b → Allowed n s (stopIf b 17 (stopIf (a && leb 48 m) 23 (does x)))
+      go true q = tt
+      go false q = by-stop (a && leb 48 m) 23 (does x) (h (omega (arith, ltb-false 4294967295 u q)))
 
   by-sets : (d : ℕ) (r : Result) → Allowed n s (setsTo d r)
   by-sets d (value x) = tt
@@ -74,9 +82,9 @@ by-starts n before l = refl
 by-starts n during l = tt
 by-starts n (past m) l = tt
 
-ahead-delay : (n v : ℕ) → Ahead n (afterDelay n v)
-ahead-delay n zero = tt
-ahead-delay n (suc v) = omega arith
+ahead-delay : (n v : ℕ) → InRange (afterDelay n v) → Ahead n (afterDelay n v)
+ahead-delay n zero r = tt
+ahead-delay n (suc v) r = (omega arith, r)
 
 module _ (v : View) (i : Frame) where
   abbrev N : ℕ
@@ -104,10 +112,10 @@ module _ (v : View) (i : Frame) where
   allowed gotoIf = by-goes N S A (i .imm) (suc (v .place))
   allowed (holds n) = by-stop N S (eqb A 0) n (does nothing) (tt, λ b. refl)
   allowed waitEvent = (tt, λ b. refl)
-  allowed waitTime = by-asks N S true (v .times) (afterDelay N A) (waits (till (afterDelay N A))) (ahead-delay N A, λ b. refl)
+  allowed waitTime = by-asks N S true (v .times) (afterDelay N A) (waits (till (afterDelay N A))) (λ r. (ahead-delay N A r, λ b. refl))
   allowed notify = by-stop N S late 18 (does (notifies (i .d))) (tt, λ b. refl)
   allowed notifyAfter =
-      by-stop N S late 18 _ (by-asks N S (isNever (v .kernel .pends (i .d))) (v .times) (afterDelay N A) (asks (i .d) (afterDelay N A)) (ahead-delay N A, λ b. refl))
+      by-stop N S late 18 _ (by-asks N S (isNever (v .kernel .pends (i .d))) (v .times) (afterDelay N A) (asks (i .d) (afterDelay N A)) (λ r. (ahead-delay N A r, λ b. refl)))
   allowed request = by-stop N S late 18 (does (requests (i .d))) (tt, λ b. refl)
   allowed suspend = by-stop N S late 18 (does (suspends (i .d))) (tt, λ b. refl)
   allowed resumeOp = by-stop N S late 18 (does (resumes (i .d))) (tt, λ b. refl)

@@ -2,12 +2,11 @@
 use Prim.Native.Nat.{ℕ}
 use mathlib.Core.Path.{_≡_, refl, sym}
 use mathlib.Core.Bool.{Bool, true, false, _&&_}
-use mathlib.Core.Logic.{_⊎_, inl, inr}
 use native.Mathlib.Omega.{arith}
 use lib.Dec.{ltb, leb}
 use borrow.Author.Tests.{ltb-true, ltb-false, lt-ltb, le-ltb, leb-true, le-leb}
-use Rattle.kernel.specs.Kernel.{Due, never, delta, at, Deed}
-use Rattle.kernel.specs.Effect.{Effect, stops, does, stopIf, asksFor}
+use Rattle.kernel.specs.Kernel.{Deed}
+use Rattle.kernel.specs.Effect.{Effect, stops, does, stopIf}
 use Rattle.kernel.specs.Asking.{Asking}
 
 two-numbers : {A : Type 0} → stops 17 ≡ stops 23 → A
@@ -41,14 +40,3 @@ asking adds n t x = record {
     (λ e. let w = full-only x (ltb 4294967295 t) adds (leb 48 n) e in (omega (arith, ltb-false 4294967295 t (w .0)), w .1, leb-true 48 n (w .2))),
   );
 }
-
--- either way the instruction asks, or the run stops
-pub asks-or-stops : (adds : Bool) (n : ℕ) (d : Due) (x : Deed) → (asksFor adds n d x ≡ does x) ⊎ ((v : ℕ) × (asksFor adds n d x ≡ stops v))
-asks-or-stops adds n never x = inl refl
-asks-or-stops adds n delta x = inl refl
-asks-or-stops adds n (at t) x = go (ltb 4294967295 t) (adds && leb 48 n)
-  where
-    go : (l f : Bool) → (stopIf l 17 (stopIf f 23 (does x)) ≡ does x) ⊎ ((v : ℕ) × (stopIf l 17 (stopIf f 23 (does x)) ≡ stops v))
-    go true f = inr (17, refl)
-    go false true = inr (23, refl)
-    go false false = inl refl

@@ -177,7 +177,7 @@ kept j n =
       served = λ e. let g : Standing (j .table) (s .history) turn = subst (Standing (j .table) (s .history)) e (i .sound .standing) in (g .2, g .3);
       ahead = λ u w.
           let p : Pending (j .table) (kernel (s .history)) (at u) = stands-pending (j .table) (s .history) (at u) r w in
-          subst (Ahead (clock (s .history) .time)) (p .due) (i .sound .later (p .work) (p .within));
+          subst (Ahead (clock (s .history) .time)) (p .due) (i .sound .later (p .work) (p .within)) .0;
       holds = λ a e. (on-waits (s .history) a (on e) refl, waits-on (j .table) (s .history) a (on e) refl r);
       sleeps = λ a d. (on-waits (s .history) a (till d) refl, waits-on (j .table) (s .history) a (till d) refl r);
       marks = record {
@@ -192,6 +192,7 @@ kept j n =
       };
       frees = λ x g m a w. frees-at (j .table) x g (rightly-at (j .table) (x ∷ g) (s .history) m r) a w;
       never-back = λ g m. time-forth (j .table) g (s .history) m r;
+      in-range = omega (arith, i .sound .in-range);
       time = λ e. time-of j s i e;
       ends-quiet = λ l. (comes-quiet j s i l, came j s i l quiet);
       ends-limited = λ l. ((λ w. comes-limited j s i l (w .0) (w .1) (w .2)), came j s i l limited);

@@ -19,4 +19,5 @@ pub mod Moments
 pub mod Serves
 pub mod Stops
 pub mod Told
+pub mod Digits
 pub mod Demand

@@ -56,6 +56,7 @@ pub record Sound (t : Table) (h : History) (c : Control) : Type 0 where
   pub rightly : Rightly t h
   pub standing : Standing t h c
   pub later : Later t h
+  pub in-range : clock h .time < 4294967296
 
 -- Under way ------------------------------------------------------------------------------------------------------
 
@@ -119,13 +120,13 @@ module _ (j : Job) (s : State) where
   no-request : first (isRequested t k) (updates t) ≡ none → NoUpdate t h
   no-request q u r = true≢false (sym (requested-wants t h u r) ∙ first-none (isRequested t k) (updates t) q u (r .there))
 
-  module _ (p : Rightly t h) (l : Later t h) where
+  module _ (p : Rightly t h) (l : Later t h) (z : clock h .time < 4294967296) where
     -- nothing happens; x happens
     stays-at : (c : Control) → Standing t h c → Sound t h c
-    stays-at c o = record { rightly = p; standing = o; later = l }
+    stays-at c o = record { rightly = p; standing = o; later = l; in-range = z }
 
     happens : (x : Happening) (c : Control) → InStage (clock h .stage) x → Might t h x → clock (x ∷ h) .time ≡ clock h .time → Foresees (clock h .time) x → (Rightly t (x ∷ h) → Standing t (x ∷ h) c) → Sound t (x ∷ h) c
-    happens x c i m q f o = let r : Rightly t (x ∷ h) = (i, m, p) in record { rightly = r; standing = o r; later = later-on t x h q f l }
+    happens x c i m q f o = let r : Rightly t (x ∷ h) = (i, m, p) in record { rightly = r; standing = o r; later = later-on t x h q f l; in-range = rw q z }
 
     -- A body runs ------------------------------------------------------------------------------------------------
 
@@ -180,15 +181,15 @@ module _ (j : Job) (s : State) where
     -- Time -------------------------------------------------------------------------------------------------------
 
     module _ (d : ℕ) (q : leastTime t k ≡ found d) where
-      ahead-at : Pending t k (at d) → clock h .time < d
-      ahead-at x = subst (Ahead (clock h .time)) (x .due) (l (x .work) (x .within))
+      ahead-at : (u : ℕ) → Pending t k (at u) → Ahead (clock h .time) (at u)
+      ahead-at u x = subst (Ahead (clock h .time)) (x .due) (l (x .work) (x .within))
 
       earliest : Still t h → Earliest t h d
       earliest c = record {
         still = c;
         due = pending-stands t h (at d) (at-never d) (found-due t k d q);
         first = λ u w. found-first t k d q u (stands-pending t h (at u) p w);
-        later = ahead-at (found-due t k d q);
+        later = ahead-at d (found-due t k d q) .0;
       }
 
       -- what is due at d is served, and the rest lies past it
@@ -199,7 +200,9 @@ module _ (j : Job) (s : State) where
         where
           go : (z : Bool) → eqb u d ≡ z → Ahead d (if z then never else at u)
           go true r = tt
-          go false r = omega (arith, found-first t k d q u (record { work = x; within = w; due = e }), eqb-false u d r)
+          go false r =
+              let y : Pending t k (at u) = record { work = x; within = w; due = e } in
+              (omega (arith, found-first t k d q u y, eqb-false u d r), ahead-at u y .1)
 
       moves : During h → Still t h → above d (k .limit) ≡ false → Sound t (served t k (at d) ++ (moved d ∷ h)) turn
       unfolding kernel after clock since
@@ -215,6 +218,7 @@ module _ (j : Job) (s : State) where
             rightly = r .rightly;
             standing = (r .in-phase, r .lull, r .no-update, λ w. c .no-delta (pending-stands t h delta delta-never (pending-back t k (at d) (moved d ∷ h) refl refl delta delta-never (stands-pending t (served t k (at d) ++ (moved d ∷ h)) delta (r .rightly) w))));
             later = λ x w. rw (← time-now (served t k (at d) ++ (moved d ∷ h)), served-now t k (at d) (moved d ∷ h), served-in t k (at d) (moved d ∷ h) refl refl x w) (past-now (dueIn k x) x w refl);
+            in-range = rw (← time-now (served t k (at d) ++ (moved d ∷ h)), served-now t k (at d) (moved d ∷ h)) (ahead-at d (found-due t k d q) .1);
           }
 
     deltas : During h → Lull t h → NoUpdate t h → Sound t (served t k delta ++ h) turn
@@ -225,6 +229,7 @@ module _ (j : Job) (s : State) where
           rightly = r .rightly;
           standing = (r .in-phase, r .lull, r .no-update, λ w. pending-gone t k delta h refl refl delta-never (stands-pending t (served t k delta ++ h) delta (r .rightly) w));
           later = λ x w. rw (served-in t k delta h refl refl x w, e) (go (sameDue (dueIn k x) delta) (dueIn k x) (l x w));
+          in-range = rw e z;
         }
       where
         go : (z : Bool) (y : Due) → Ahead (clock h .time) y → Ahead (clock h .time) (if z then never else y)
@@ -267,7 +272,7 @@ pub inv-step : (j : Job) (s : State) → Inv j s → Inv j (step j s)
 unfolding step
 inv-step j s i = record {
   fits = fits-step j s (i .fits);
-  sound = keeps-branch j s (i .sound .rightly) (i .sound .later) (s .machine .control) (stepFrom j s (s .machine .control)) (branch j s (s .machine .control)) (i .fits) (i .sound .standing);
+  sound = keeps-branch j s (i .sound .rightly) (i .sound .later) (i .sound .in-range) (s .machine .control) (stepFrom j s (s .machine .control)) (branch j s (s .machine .control)) (i .fits) (i .sound .standing);
 }
 
 pub inv-steps : (j : Job) (n : ℕ) (s : State) → Inv j s → Inv j (steps j n s)
@@ -277,7 +282,7 @@ inv-steps j (suc n) s i = inv-steps j n (step j s) (inv-step j s i)
 
 pub inv-init : (j : Job) → Inv j (init j)
 unfolding kernel clock
-inv-init j = record { fits = tt; sound = record { rightly = tt; standing = λ q. let z : _≡_ {A = ℕ} 0 1 = cc in omega arith; later = later } }
+inv-init j = record { fits = tt; sound = record { rightly = tt; standing = λ q. let z : _≡_ {A = ℕ} 0 1 = cc in omega arith; later = later; in-range = omega arith } }
   where
     later : Later (j .table) []
     later (event e) w = tt

@@ -1,4 +1,4 @@
--- An instruction stops a run with one of the numbers that specs/Demand.antt names, and with no other.
+-- An instruction stops a run with one of the numbers that specs/Demand.antt names, and with no other; and takes an input only if one is left.
 use Prim.Native.Nat.{ℕ, zero, suc, _+_, _/_, _%_, _<_}
 use mathlib.Core.Path.{_≡_, refl}
 use mathlib.Core.Logic.{_⊎_, inl, inr}
@@ -24,13 +24,13 @@ use Rattle.kernel.specs.Kernel.{Due, never, delta, at, afterDelay, till,
 use Rattle.kernel.specs.Effect.{View, Effect, stops, sets, takes, goes, does, begins, stopIf, setsTo, takesTo, goesIf, startsIn, mainPast, isNever, asksFor, effect}
 use Rattle.kernel.specs.Demand.{isStop, Stops}
 
-abbrev pub Right : Table → Effect → Type 0
-Right t (stops n) = Stops t n
-Right t (sets d x) = Unit {0}
-Right t (takes d x) = Unit {0}
-Right t (goes p) = Unit {0}
-Right t (does x) = Unit {0}
-Right t (begins l) = Unit {0}
+abbrev pub Right : Table → View → Effect → Type 0
+Right t v (stops n) = Stops t n
+Right t v (sets d x) = Unit {0}
+Right t v (takes d x) = v .input ≡ found x
+Right t v (goes p) = Unit {0}
+Right t v (does x) = Unit {0}
+Right t v (begins l) = Unit {0}
 
 -- What the op table holds -----------------------------------------------------------------------------------------
 
@@ -131,34 +131,34 @@ sound-ops =
 
 -- What an instruction comes to ------------------------------------------------------------------------------------
 
-module _ (t : Table) where
-  right-if : (b : Bool) (n : ℕ) (x : Effect) → isStop n ≡ true → Right t x → Right t (stopIf b n x)
+module _ (t : Table) (v : View) where
+  right-if : (b : Bool) (n : ℕ) (x : Effect) → isStop n ≡ true → Right t v x → Right t v (stopIf b n x)
   right-if true n x q h = inl q
   right-if false n x q h = h
 
-  right-asks : (a : Bool) (n : ℕ) (d : Due) (x : Deed) → Right t (asksFor a n d x)
+  right-asks : (a : Bool) (n : ℕ) (d : Due) (x : Deed) → Right t v (asksFor a n d x)
   right-asks a n never x = tt
   right-asks a n delta x = tt
   right-asks a n (at u) x = right-if (ltb 4294967295 u) 17 _ refl (right-if (a && leb 48 n) 23 (does x) refl tt)
 
-  right-sets : (d : ℕ) (r : Result) → RightResult r → Right t (setsTo d r)
+  right-sets : (d : ℕ) (r : Result) → RightResult r → Right t v (setsTo d r)
   right-sets d (value x) q = tt
   right-sets d (stop n) q = inl q
 
-  right-takes : (d : ℕ) (f : Found) → Right t (takesTo d f)
-  right-takes d none = inl refl
-  right-takes d (found x) = tt
+  right-takes : (d : ℕ) (f : Found) → v .input ≡ f → Right t v (takesTo d f)
+  right-takes d none q = inl refl
+  right-takes d (found x) q = q
 
-  right-goes : (x p q : ℕ) → Right t (goesIf x p q)
+  right-goes : (x p q : ℕ) → Right t v (goesIf x p q)
   right-goes zero p q = tt
   right-goes (suc x) p q = tt
 
-  right-starts : (s : Stage) (l : Found) → Right t (startsIn s l)
+  right-starts : (s : Stage) (l : Found) → Right t v (startsIn s l)
   right-starts before l = tt
   right-starts during l = inl refl
   right-starts (past n) l = inl refl
 
-  module _ (v : View) (i : Frame) where
+  module _ (i : Frame) where
     abbrev A : ℕ
     A = getD (v .cells) (i .a) 0
 
@@ -171,12 +171,12 @@ module _ (t : Table) where
     abbrev due : Due
     due = afterDelay (v .kernel .now) A
 
-    right : (m : Meaning) → Sound m → Right t (effect v i m)
+    right : (m : Meaning) → Sound m → Right t v (effect v i m)
     unfolding effect
     right (may f) h = right-sets (i .d) (f A B) (h A B)
     right (holds n) h = right-if (eqb A 0) n _ h tt
     right takesImm h = tt
-    right takesInput h = right-takes (i .d) (v .input)
+    right takesInput h = right-takes (i .d) (v .input) refl
     right (one f) h = tt
     right (two f) h = tt
     right load h = right-if (leb (i .b) A) 16 _ refl tt
@@ -202,13 +202,13 @@ module _ (t : Table) where
       let z : _≡_ {A = ℕ} 4 0 = rw q at e in
       omega arith
 
-  pub right-instruction : (v : View) (k p : ℕ) → k < threads t + updates t + 1 → p < lengthOf t k → Right t (effect v (instruction t k p) (meaningOf (instruction t k p .op)))
+  pub right-instruction : (k p : ℕ) → k < threads t + updates t + 1 → p < lengthOf t k → Right t v (effect v (instruction t k p) (meaningOf (instruction t k p .op)))
   unfolding meaningOf usesOf effect
-  right-instruction v k p l m = by (look-sound ops (instruction t k p .op) sound-ops)
+  right-instruction k p l m = by (look-sound ops (instruction t k p .op) sound-ops)
     where
       i : Frame
       i = instruction t k p
 
-      by : Sound (lookMeaning ops (i .op)) ⊎ ((lookMeaning ops (i .op) ≡ unknown) × (look ops (i .op) ≡ Unknown)) → Right t (effect v i (lookMeaning ops (i .op)))
-      by (inl h) = right v i (lookMeaning ops (i .op)) h
+      by : Sound (lookMeaning ops (i .op)) ⊎ ((lookMeaning ops (i .op) ≡ unknown) × (look ops (i .op) ≡ Unknown)) → Right t v (effect v i (lookMeaning ops (i .op)))
+      by (inl h) = right i (lookMeaning ops (i .op)) h
       by (inr e) = rw (e .0) (inr (refl, no-unknown k p l m (e .1)))

@@ -106,7 +106,7 @@ module _ (j : Job) (s : State) (c : CountsOf (s .machine) (s .history)) where
   abbrev IsDue : Body → Type 0
   IsDue b = m .places (number t b) < lengthOf t (number t b)
 
-  performs : (b : Body) (x : Effect) (v : ℕ) (g : Stage) → Allowed v g x → Right t x → IsDue b → Fits t (kernel h) (running b) → TellsOf (perform j s b x)
+  performs : (b : Body) (x : Effect) (v : ℕ) (g : Stage) → Allowed v g x → Right t (view j s b) x → IsDue b → Fits t (kernel h) (running b) → TellsOf (perform j s b x)
   unfolding perform count
   performs b (stops n) v g a r d f = record { counts = c; why = stopped (body-there t (kernel h) b f) d r }
   performs b (sets d x) v g a r l f = record { counts = record { instructions = ap suc (c .instructions); choices = c .choices; inputs = c .inputs }; why = tt }

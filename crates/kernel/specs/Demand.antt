@@ -170,8 +170,9 @@ pub record Kept (j : Job) (s : State) : Type 0 where
   pub marks : Marks (j .table) (s .history)
   -- a thread that was freed has nothing left of that wait, or of any other
   pub frees : (x : Happening) (g : History) → Moment (x ∷ g) (s .history) → (i : ℕ) (w : Wait) → Waits i w g → endsWait i w x ≡ true → Unheld i (x ∷ g)
-  -- time never goes backwards
+  -- time never goes backwards, nor above 4,294,967,295
   pub never-back : (g : History) → Moment g (s .history) → clock g .time ≤ clock (s .history) .time
+  pub in-range : clock (s .history) .time ≤ 4294967295
   -- time moves, and the phase ends as quiet or as limit, exactly when
   pub time : s .machine .control ≡ timePhase → Time j s
   pub ends-quiet : InPhase (s .machine .control) → Nothing (j .table) (s .history) ↔ Comes j s quiet

@@ -13,3 +13,4 @@ pub mod Marked
 pub mod Words
 pub mod Demand
 pub mod Looms
+pub mod Digits
