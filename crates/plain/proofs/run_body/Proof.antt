@@ -6,11 +6,6 @@ use mathlib.Core.Path.{_≡_, refl}
 use lib.ListN.{length}
 use Rattle.plain.proofs.run_body.Statement.{statement}
 use Rattle.plain.proofs.run_body.Tie as tie
-use Rattle.plain.proofs.run_body.Reads as reads
-use Rattle.plain.proofs.run_body.Lts as lts
-use Rattle.frame.proofs.decode.Reads as decode-reads
-use Rattle.plain.proofs.effect_of.Reads as effect-of-reads
-use Rattle.plain.proofs.put_cell.Reads as put-cell-reads
 
 abbrev Inv-loop : tie.InvT-loop
 Inv-loop body from budget cells₀ place₀ left₀ cells place left = (plain left body 0 (length body) place cells ≡ plain budget body 0 (length body) from cells₀) × (length cells ≡ length cells₀)
@@ -18,103 +13,78 @@ Inv-loop body from budget cells₀ place₀ left₀ cells place left = (plain le
 abbrev μ-loop : tie.MeasureT-loop
 μ-loop body from budget cells₀ place₀ left₀ cells place left = left
 
--- src/lib.rt:167:5
 loop-holds : tie.Need-loop-holds Inv-loop μ-loop
 loop-holds c = (refl, refl)
 
--- src/lib.rt:169:13
 same-length : tie.Need-same-length Inv-loop μ-loop
 same-length c = search needs
 
--- src/lib.rt:169:13
 returns : tie.Need-returns Inv-loop μ-loop
 returns c = search (loop-laws, needs)
 
--- src/lib.rt:175:37
--- src/lib.rt:175:31
 mul-decode : tie.Need-mul-decode Inv-loop μ-loop
 mul-decode c = search needs
 
--- src/lib.rt:175:31
 shared-slice-read-decode : tie.Need-shared-slice-read-decode Inv-loop μ-loop
 shared-slice-read-decode c = search needs
 
--- src/lib.rt:175:13
 decode-requires : tie.Need-decode-requires Inv-loop μ-loop
 decode-requires c κs = search needs
 
--- src/lib.rt:176:13
 effect-of-requires : tie.Need-effect-of-requires Inv-loop μ-loop
 effect-of-requires c κs = search needs
 
--- src/lib.rt:178:22
 enum-known-e : tie.Need-enum-known-e Inv-loop μ-loop
 enum-known-e c = search needs
 
--- src/lib.rt:179:17
 put-cell-requires : tie.Need-put-cell-requires Inv-loop μ-loop
 put-cell-requires c κs = search needs
 
--- src/lib.rt:180:25
 add-place : tie.Need-add-place Inv-loop μ-loop
 add-place c = search needs
 
--- src/lib.rt:183:25
 enum-told : tie.Need-enum-told Inv-loop μ-loop
 enum-told c = search needs
 
--- src/lib.rt:183:25
 add-place-2 : tie.Need-add-place-2 Inv-loop μ-loop
 add-place-2 c = search needs
 
--- src/lib.rt:185:21
 enum-known-e-2 : tie.Need-enum-known-e-2 Inv-loop μ-loop
 enum-known-e-2 c = search needs
 
--- src/lib.rt:188:23
 enum-known-e-3 : tie.Need-enum-known-e-3 Inv-loop μ-loop
 enum-known-e-3 c = search needs
 
--- src/lib.rt:189:17
 same-length-2 : tie.Need-same-length-2 Inv-loop μ-loop
 same-length-2 c = search needs
 
--- src/lib.rt:189:17
 returns-2 : tie.Need-returns-2 Inv-loop μ-loop
 returns-2 c = search (loop-laws, needs)
 
--- src/lib.rt:197:26
 enum-told-2 : tie.Need-enum-told-2 Inv-loop μ-loop
 enum-told-2 c = search needs
 
--- src/lib.rt:196:17
 same-length-3 : tie.Need-same-length-3 Inv-loop μ-loop
 same-length-3 c = search needs
 
--- src/lib.rt:196:17
 returns-3 : tie.Need-returns-3 Inv-loop μ-loop
 returns-3 c = search (loop-laws, needs)
 
--- src/lib.rt:203:16
 sub-left : tie.Need-sub-left Inv-loop μ-loop
 sub-left c = search needs
 
--- src/lib.rt:167:5
 loop-less : tie.Need-loop-less Inv-loop μ-loop
 loop-less c = search needs
 
--- src/lib.rt:167:5
 loop-again : tie.Need-loop-again Inv-loop μ-loop
 loop-again c =
     ⊎-elim (λ w. (rw (w .7, w .8) (search (loop-puts, needs)), rw (w .7) (search needs)))
     (⊎-elim (λ w. (rw (w .2, w .3) (loop-nexts _ _ _ _ _ _ (c .before .before .before .before .before .before .before .loop .inv .0) (c .before .before .before .before .before .before .loop-test .taken) (search needs) _ _ (c .before .before .before .decode .ensures) (c .before .effect-of .ensures) (w .1 .given .1)), rw (w .2) (search needs)))
     (λ w. (rw (w .3, w .4) (search (loop-goes, needs)), rw (w .3) (search needs)))) (c .match .came)
 
--- src/lib.rt:154:1
 same-length-4 : tie.Need-same-length-4 Inv-loop μ-loop
 same-length-4 c = search needs
 
--- src/lib.rt:154:1
 returns-4 : tie.Need-returns-4 Inv-loop μ-loop
 returns-4 c = search (loop-laws, needs)
 
