@@ -24,7 +24,7 @@ use Rattle.lines.proofs.RoundTrip.{settled-good}
 use Rattle.lines.proofs.Few.{read-few}
 use Rattle.kernel.specs.Run.{Answer, Outcome as Ran, asked}
 use Rattle.kernel.specs.Machine.{jobOf}
-use Rattle.run.proofs.Ends.{few-counts}
+use Rattle.run.proofs.Ends.{cut-counted, few-counts}
 use Rattle.job.specs.declared.Listed.{Listed}
 use Rattle.job.specs.declared.Listed.the-variants.{Count, Broken}
 use Rattle.job.specs.Steps.{listed, countOf}
@@ -152,8 +152,9 @@ room job out w h e = rw (le-ltb (length out) mostPrinted h) e
 pub room-cut : (job out : List ℕ) (w : Written) → mostPrinted ≤ length out → w ≡ put (printed (take longestJob job)) out → w ≡ answered job out
 room-cut job out w h e = room job out w h (e ∙ ap (λ (p : List ℕ). put p out) (past-the-job job))
 
+-- a part from the start, as the test of its length has it
 pub first-counted : (n : ℕ) (job : List ℕ) → n < length job → n ≡ length (take n job)
-first-counted n job h = sym (length-take-le n job (omega arith))
+first-counted n job h = cut-counted n job (omega arith)
 
 -- the bytes written stand in the buffer
 module _ (job out l : List ℕ) (n : ℕ) where

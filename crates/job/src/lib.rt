@@ -197,7 +197,7 @@ fn print(job: &[u8], out: &mut [u8]) -> usize
 }
 
 // Writes the answer to a job to the start of out and answers how many bytes it has; writes nothing and answers 0 where out has not room
-// for the longest answer.
+// for the longest answer. What stands past the longest job is not looked at, so the time does not grow with it.
 pub fn answer(job: &[u8], out: &mut [u8]) -> usize
     ensures { λ r. ⌜ wrote r (now (out .exit)) ≡ answered (now (job .entry)) (now (out .entry)) ⌝ }
 {

@@ -1,13 +1,15 @@
 -- 17 and 23 are given exactly when, and in their order.
-use Prim.Native.Nat.{ℕ}
+use Prim.Native.Nat.{ℕ, _≤_}
 use mathlib.Core.Path.{_≡_, refl, sym}
 use mathlib.Core.Bool.{Bool, true, false, _&&_}
+use mathlib.Core.Logic.{_⊎_, inl, inr}
 use native.Mathlib.Omega.{arith}
 use lib.Dec.{ltb, leb}
 use borrow.Author.Tests.{ltb-true, ltb-false, lt-ltb, le-ltb, leb-true, le-leb}
-use Rattle.kernel.specs.Kernel.{Deed}
-use Rattle.kernel.specs.Effect.{Effect, stops, does, stopIf}
+use Rattle.kernel.specs.Kernel.{at, Deed}
+use Rattle.kernel.specs.Effect.{Effect, stops, does, stopIf, lastTime, asksFor}
 use Rattle.kernel.specs.Asking.{Asking}
+use Rattle.kernel.specs.Demand.{isStop}
 
 two-numbers : {A : Type 0} → stops 17 ≡ stops 23 → A
 two-numbers e = let z : _≡_ {A = ℕ} 17 23 = cc in absurd (omega arith)
@@ -34,9 +36,18 @@ module _ (x : Deed) where
 
 pub asking : (adds : Bool) (n t : ℕ) (x : Deed) → Asking adds n t x
 asking adds n t x = record {
-  too-late = ((λ h. rw (lt-ltb 4294967295 t h)), (λ e. ltb-true 4294967295 t (late-only x (ltb 4294967295 t) adds (leb 48 n) e)));
+  too-late = ((λ h. rw (lt-ltb lastTime t h)), (λ e. ltb-true lastTime t (late-only x (ltb lastTime t) adds (leb 48 n) e)));
   too-many = (
-    (λ h. rw (le-ltb 4294967295 t (h .0), h .1, le-leb 48 n (h .2))),
-    (λ e. let w = full-only x (ltb 4294967295 t) adds (leb 48 n) e in (omega (arith, ltb-false 4294967295 t (w .0)), w .1, leb-true 48 n (w .2))),
+    (λ h. rw (le-ltb lastTime t (h .0), h .1, le-leb 48 n (h .2))),
+    (λ e. let w = full-only x (ltb lastTime t) adds (leb 48 n) e in (omega (arith, ltb-false lastTime t (w .0)), w .1, leb-true 48 n (w .2))),
   );
 }
+
+-- the instruction asks, for a time that is not past the last, or the run stops
+pub asks-or-stops : (adds : Bool) (n t : ℕ) (x : Deed) → ((t ≤ lastTime) × (asksFor adds n (at t) x ≡ does x)) ⊎ ((v : ℕ) × (isStop v ≡ true) × (asksFor adds n (at t) x ≡ stops v))
+asks-or-stops adds n t x = go (ltb lastTime t) (adds && leb 48 n) refl
+  where
+    go : (l f : Bool) → ltb lastTime t ≡ l → ((t ≤ lastTime) × (stopIf l 17 (stopIf f 23 (does x)) ≡ does x)) ⊎ ((v : ℕ) × (isStop v ≡ true) × (stopIf l 17 (stopIf f 23 (does x)) ≡ stops v))
+    go true f q = inr (17, refl, refl)
+    go false true q = inr (23, refl, refl)
+    go false false q = inl (ltb-false lastTime t q, refl)

@@ -192,7 +192,7 @@ kept j n =
       };
       frees = λ x g m a w. frees-at (j .table) x g (rightly-at (j .table) (x ∷ g) (s .history) m r) a w;
       never-back = λ g m. time-forth (j .table) g (s .history) m r;
-      in-range = omega (arith, i .sound .in-range);
+      in-range = i .sound .in-range;
       time = λ e. time-of j s i e;
       ends-quiet = λ l. (comes-quiet j s i l, came j s i l quiet);
       ends-limited = λ l. ((λ w. comes-limited j s i l (w .0) (w .1) (w .2)), came j s i l limited);

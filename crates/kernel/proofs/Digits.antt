@@ -145,7 +145,7 @@ module _ (j : Job) (lent : List ℕ) where
           number = w .0;
           body = w .1;
           place = w .2;
-          time = rw (a .told .time) (i .sound .in-range);
+          time = omega (arith, a .told .time, i .sound .in-range);
           instructions = omega (arith, a .told .instructions, y .counts .instructions, z .spent);
           choices = omega (arith, a .told .choices, y .counts .choices, z .choices, f .choices);
           inputs = omega (arith, a .told .inputs, y .counts .inputs, z .taken, f .inputs);

@@ -11,13 +11,13 @@ pub mod Bound
 pub mod Enough
 pub mod Words
 pub mod Due
+pub mod Stops
 pub mod Ahead
 pub mod Serving
 pub mod Rightly
 pub mod Comes
 pub mod Moments
 pub mod Serves
-pub mod Stops
 pub mod Told
 pub mod Digits
 pub mod Demand

@@ -1,28 +1,27 @@
 -- Every step keeps it: each happening came when it might, the machine stands where it may, and what stands due lies ahead.
-use Prim.Native.Nat.{ℕ, zero, suc, _<_}
+use Prim.Native.Nat.{ℕ, zero, suc, _≤_}
 use mathlib.Core.Path.{_≡_, refl, _∙_, sym, subst}
 use mathlib.Core.Bool.{Bool, true, false, true≢false, false≢true}
+use mathlib.Core.Logic.{inl}
 use mathlib.Core.List.{[], _∷_, _++_, append-assoc}
 use native.Mathlib.Omega.{arith}
 use lib.Dec.{eqb}
 use borrow.Author.Tests.{ltb-true, ltb-false, eqb-false}
 use Rattle.laws.specs.Choice.{if_then_else_}
-use Rattle.frame.specs.declared.Frame.{Frame}
-use Rattle.frame.specs.Ops.{meaningOf}
 use Rattle.kernel.specs.Search.{Found, none, found, first}
-use Rattle.kernel.specs.Design.{Table, Body, main, thread, update, threads, updates, number, instruction}
+use Rattle.kernel.specs.Design.{Table, Body, main, thread, update, threads, updates, number}
 use Rattle.kernel.specs.Kernel.{Due, never, delta, at, Kernel, Deed, nothing, reads, Happening, ran, ended, dispatched, finished, began, moved, quiet, limited, History, Stage, during, past, after, kernel}
 use Rattle.kernel.specs.Pending.{runnable, isRequested, leastTime, above, sameDue, served}
-use Rattle.kernel.specs.Effect.{Effect, stops, sets, takes, goes, does, begins}
+use Rattle.kernel.specs.Effect.{Effect, stops, sets, takes, goes, does, begins, lastTime}
 use Rattle.kernel.specs.Machine.{Job, Control, running, updatePhase, deltaPhase, turn, evaluation, timePhase, over, State, Out, init}
-use Rattle.kernel.specs.Step.{someRunnable, effectOf, runsOn, perform, view, stepFrom, step, steps}
+use Rattle.kernel.specs.Step.{due, someRunnable, effectOf, runsOn, perform, view, stepFrom, step, steps}
 use Rattle.kernel.specs.Words.{since, clock, InStage, between, Runnable, Requested, Lull, begun, idle, yet, Lowest, lowest, runs, Underway, starts, goes-on, Work, event, wait, resume, Within, Stands, Still, Earliest, Above}
 use Rattle.kernel.specs.Demand.{in-delta, at-time, Might, Rightly, SomeRunnable}
 use Rattle.kernel.proofs.Search.{any-none, any-some, first-none, first-found}
 use Rattle.kernel.proofs.Served.{served-now}
 use Rattle.kernel.proofs.Branch as B
 use Rattle.kernel.proofs.Branch.{Branch, branch}
-use Rattle.kernel.proofs.Fits.{Fits, fits-step}
+use Rattle.kernel.proofs.Fits.{Fits, fits-step, body-there}
 use Rattle.kernel.proofs.Words.{runs-runnable, runnable-runs, wants-requested, requested-wants, time-now, limit-now, stage-now}
 use Rattle.kernel.proofs.Due.{dueIn, Pending, delta-never, at-never, stands-pending, pending-stands, none-due, found-due, found-first, served-in, pending-back, pending-gone}
 use Rattle.kernel.proofs.Ahead.{Ahead, AheadDeed, Allowed, allowed, Later, Foresees, later-on}
@@ -56,7 +55,7 @@ pub record Sound (t : Table) (h : History) (c : Control) : Type 0 where
   pub rightly : Rightly t h
   pub standing : Standing t h c
   pub later : Later t h
-  pub in-range : clock h .time < 4294967296
+  pub in-range : clock h .time ≤ lastTime
 
 -- Under way ------------------------------------------------------------------------------------------------------
 
@@ -95,8 +94,8 @@ above-false d none q a = a
 above-false d (found n) q a = omega (arith, ltb-false n d q)
 
 -- the kernel's clock is the history's
-allowed-now : {n m : ℕ} {s r : Stage} (x : Effect) → n ≡ m → s ≡ r → Allowed n s x → Allowed m r x
-allowed-now x p q a = rw (← p, ← q) a
+allowed-now : (t : Table) (f : Found) {n m : ℕ} {s r : Stage} (x : Effect) → n ≡ m → s ≡ r → Allowed t f n s x → Allowed t f m r x
+allowed-now t f x p q a = rw (← p, ← q) a
 
 module _ (j : Job) (s : State) where
   abbrev t : Table
@@ -120,7 +119,7 @@ module _ (j : Job) (s : State) where
   no-request : first (isRequested t k) (updates t) ≡ none → NoUpdate t h
   no-request q u r = true≢false (sym (requested-wants t h u r) ∙ first-none (isRequested t k) (updates t) q u (r .there))
 
-  module _ (p : Rightly t h) (l : Later t h) (z : clock h .time < 4294967296) where
+  module _ (p : Rightly t h) (l : Later t h) (z : clock h .time ≤ lastTime) where
     -- nothing happens; x happens
     stays-at : (c : Control) → Standing t h c → Sound t h c
     stays-at c o = record { rightly = p; standing = o; later = l; in-range = z }
@@ -164,7 +163,7 @@ module _ (j : Job) (s : State) where
     goes-by : (b : Body) (x : Deed) → after (ran b x) k ≡ k → AheadDeed (clock h .time) x → Fits t k (running b) → Standing t h (running b) → Sound t (ran b x ∷ h) (running b)
     goes-by b x q a f o = has-run b x (running b) f o a (still-on b x q f o)
 
-    performs : (b : Body) (x : Effect) → Allowed (clock h .time) (clock h .stage) x → Fits t k (running b) → Standing t h (running b) → Good (perform j s b x)
+    performs : (b : Body) (x : Effect) → Allowed t (view j s b .input) (clock h .time) (clock h .stage) x → Fits t k (running b) → Standing t h (running b) → Good (perform j s b x)
     unfolding perform clock after
     performs b (stops n) a f o = stays-at _ tt
     performs b (sets d x) a f o = goes-by b nothing refl tt f o
@@ -173,10 +172,10 @@ module _ (j : Job) (s : State) where
     performs b (does x) a f o = has-run b x (runsOn j s b (kernel (ran b x ∷ h))) f o (a .0) (goes-or-not b x o)
     performs b (begins n) a f o = happens (began n) updatePhase a tt refl tt (λ r. (refl, begun))
 
-    obeys : (b : Body) → Fits t k (running b) → Standing t h (running b) → Good (perform j s b (effectOf j s b))
-    obeys b f o =
-        let i : Frame = instruction t (number t b) (s .machine .places (number t b)) in
-        performs b (effectOf j s b) (allowed-now (effectOf j s b) (time-now h) (stage-now h) (allowed (view j s b) i (meaningOf (i .op)))) f o
+    obeys : (b : Body) → due j s b ≡ true → Fits t k (running b) → Standing t h (running b) → Good (perform j s b (effectOf j s b))
+    obeys b d f o =
+        let a = allowed t (view j s b) (number t b) (s .machine .places (number t b)) (body-there t k b f) (ltb-true _ _ d) in
+        performs b (effectOf j s b) (allowed-now t (view j s b .input) (effectOf j s b) (time-now h) (stage-now h) a) f o
 
     -- Time -------------------------------------------------------------------------------------------------------
 
@@ -238,8 +237,8 @@ module _ (j : Job) (s : State) where
 
     keeps-branch : (c : Control) (o : Out) → Branch j s c o → Fits t k c → Standing t h c → Good o
     unfolding clock kernel after
-    keeps-branch c o (B.obeys b q r) f g = obeys b f g
-    keeps-branch c o (B.unpaid b q r) f g = performs b (stops 22) tt f g
+    keeps-branch c o (B.obeys b q r) f g = obeys b q f g
+    keeps-branch c o (B.unpaid b q r) f g = performs b (stops 22) (inl refl) f g
     keeps-branch c o (B.main-ends q) f g = stays-at _ tt
     keeps-branch c o (B.thread-ends i q) f g =
         happens (ended i) evaluation (g .0) (under-runnable t i h (g .1), g .1) refl tt (λ r. (g .0, λ n u. no-ended t n i h u))

@@ -15,7 +15,7 @@ use Rattle.kernel.proofs.Search.{nth-some}
 use Rattle.kernel.proofs.Branch as B
 use Rattle.kernel.proofs.Branch.{Branch, branch}
 use Rattle.kernel.proofs.Fits.{Fits, body-there, on-either, fits-step}
-use Rattle.kernel.proofs.Stops.{Right, right-instruction}
+use Rattle.kernel.proofs.Ahead.{Allowed, allowed}
 
 abbrev pub Small : Control → Type 0
 Small (running b) = Unit {0}
@@ -70,7 +70,7 @@ module _ (j : Job) (s : State) where
         spent = z .spent;
       }
 
-  few-perform : (b : Body) (x : Effect) → Fits t k (running b) → due j s b ≡ true → Right t (view j s b) x → s .machine .instructions < j .budget → Few j (s .machine) → Few j (perform j s b x .next)
+  few-perform : (b : Body) (x : Effect) → Fits t k (running b) → due j s b ≡ true → Allowed t (view j s b .input) (k .now) (k .stage) x → s .machine .instructions < j .budget → Few j (s .machine) → Few j (perform j s b x .next)
   unfolding perform
   few-perform b (stops n) f d r l z = few-stops b n f d z
   few-perform b (sets d x) f h r l z = record { control = tt; choices = z .choices; inputs = omega (arith, z .inputs); taken = z .taken; spent = l }
@@ -97,7 +97,7 @@ module _ (j : Job) (s : State) where
 
   few-branch : (c : Control) (o : Out) → Branch j s c o → Fits t k c → Small c → Few j (s .machine) → Few j (o .next)
   few-branch c o (B.obeys b p q) f y z =
-      few-perform b (effectOf j s b) f p (right-instruction t (view j s b) (number t b) (s .machine .places (number t b)) (body-there t k b f) (ltb-true _ _ p)) (ltb-true _ _ q) z
+      few-perform b (effectOf j s b) f p (allowed t (view j s b) (number t b) (s .machine .places (number t b)) (body-there t k b f) (ltb-true _ _ p)) (ltb-true _ _ q) z
   few-branch c o (B.unpaid b p q) f y z = few-stops b 22 f p z
   few-branch c o (B.main-ends q) f y z = placed-there _ (omega arith, omega arith) z
   few-branch c o (B.thread-ends i q) f y z = placed-there _ tt z

@@ -1,40 +1,26 @@
--- An instruction stops a run with one of the numbers that specs/Demand.antt names, and with no other; and takes an input only if one is left.
-use Prim.Native.Nat.{ℕ, zero, suc, _+_, _/_, _%_, _<_}
+-- No op of the table stops a run with a number other than those that specs/Demand.antt names, and no accepted table has an unknown op.
+use Prim.Native.Nat.{ℕ, _+_, _/_, _%_, _<_}
 use mathlib.Core.Path.{_≡_, refl}
 use mathlib.Core.Logic.{_⊎_, inl, inr}
-use mathlib.Core.Bool.{Bool, true, false, _&&_}
+use mathlib.Core.Bool.{Bool, true, false}
 use mathlib.Core.List.{List, [], _∷_}
 use native.Mathlib.Omega.{arith}
-use lib.Dec.{eqb, ltb, leb}
+use lib.Dec.{eqb}
 use lib.IntN.{ℤ, _+ℤ_, _-ℤ_, _*ℤ_}
 use lib.Signed.{quotZ, remZ}
-use lib.ListN.{getD}
 use Rattle.laws.specs.Choice.{if_then_else_}
 use Rattle.word.specs.Word.{Result, value, stop, quotU, remU, signed, bitsOf, inRange, narrow, addS, subS, mulS, divisionS, quotS, remS}
-use Rattle.frame.specs.declared.Frame.{Frame}
 use Rattle.frame.specs.declared.Known.the-variants.{Op, Unknown}
 use Rattle.frame.specs.Fault.{instructionFault}
 use Rattle.image.specs.Layout.{frame, counts, bodies, len, first, kindOf}
 use Rattle.image.specs.Judge.{judged}
 use Rattle.image.proofs.Accepted.{fine-instruction}
 use Rattle.frame.specs.Ops.{Meaning, takesImm, takesInput, one, two, may, load, store, goto, gotoIf, holds, waitEvent, waitTime, notify, notifyAfter, request, suspend, resume, startLimit, start, unknown, Row, ops, look, lookMeaning, usesOf, meaningOf}
-use Rattle.kernel.specs.Search.{Found, none, found}
 use Rattle.kernel.specs.Design.{Table, threads, updates, lengthOf, instruction}
-use Rattle.kernel.specs.Kernel.{Due, never, delta, at, afterDelay, till, Deed, asks, waits, Stage, before, during, past}
-use Rattle.kernel.specs.Effect.{View, Effect, stops, sets, takes, goes, does, begins, stopIf, setsTo, takesTo, goesIf, startsIn, mainPast, isNever, asksFor, effect}
-use Rattle.kernel.specs.Demand.{isStop, Stops}
+use Rattle.kernel.specs.Kernel.{at}
+use Rattle.kernel.specs.Demand.{isStop}
 
-abbrev pub Right : Table → View → Effect → Type 0
-Right t v (stops n) = Stops t n
-Right t v (sets d x) = Unit {0}
-Right t v (takes d x) = v .input ≡ found x
-Right t v (goes p) = Unit {0}
-Right t v (does x) = Unit {0}
-Right t v (begins l) = Unit {0}
-
--- What the op table holds -----------------------------------------------------------------------------------------
-
-abbrev RightResult : Result → Type 0
+abbrev pub RightResult : Result → Type 0
 RightResult (value x) = Unit {0}
 RightResult (stop n) = isStop n ≡ true
 
@@ -48,7 +34,7 @@ unless-zero true r h = refl
 unless-zero false r h = h
 
 -- no operation and no test stops a run with another number
-abbrev Sound : Meaning → Type 0
+abbrev pub Sound : Meaning → Type 0
 Sound (may f) = (x y : ℕ) → RightResult (f x y)
 Sound (holds n) = isStop n ≡ true
 Sound takesImm = Unit {0}
@@ -129,71 +115,9 @@ sound-ops =
     & tt & tt & tt & tt & tt & tt & tt & tt & tt & tt & tt & tt & tt & tt & refl & refl
     & tt & tt & tt & tt & tt & tt & tt & tt & tt & end
 
--- What an instruction comes to ------------------------------------------------------------------------------------
+-- The instructions of a table -------------------------------------------------------------------------------------
 
-module _ (t : Table) (v : View) where
-  right-if : (b : Bool) (n : ℕ) (x : Effect) → isStop n ≡ true → Right t v x → Right t v (stopIf b n x)
-  right-if true n x q h = inl q
-  right-if false n x q h = h
-
-  right-asks : (a : Bool) (n : ℕ) (d : Due) (x : Deed) → Right t v (asksFor a n d x)
-  right-asks a n never x = tt
-  right-asks a n delta x = tt
-  right-asks a n (at u) x = right-if (ltb 4294967295 u) 17 _ refl (right-if (a && leb 48 n) 23 (does x) refl tt)
-
-  right-sets : (d : ℕ) (r : Result) → RightResult r → Right t v (setsTo d r)
-  right-sets d (value x) q = tt
-  right-sets d (stop n) q = inl q
-
-  right-takes : (d : ℕ) (f : Found) → v .input ≡ f → Right t v (takesTo d f)
-  right-takes d none q = inl refl
-  right-takes d (found x) q = q
-
-  right-goes : (x p q : ℕ) → Right t v (goesIf x p q)
-  right-goes zero p q = tt
-  right-goes (suc x) p q = tt
-
-  right-starts : (s : Stage) (l : Found) → Right t v (startsIn s l)
-  right-starts before l = tt
-  right-starts during l = inl refl
-  right-starts (past n) l = inl refl
-
-  module _ (i : Frame) where
-    abbrev A : ℕ
-    A = getD (v .cells) (i .a) 0
-
-    abbrev B : ℕ
-    B = getD (v .cells) (i .b) 0
-
-    abbrev late : Bool
-    late = mainPast (v .body) (v .kernel .stage)
-
-    abbrev due : Due
-    due = afterDelay (v .kernel .now) A
-
-    right : (m : Meaning) → Sound m → Right t v (effect v i m)
-    unfolding effect
-    right (may f) h = right-sets (i .d) (f A B) (h A B)
-    right (holds n) h = right-if (eqb A 0) n _ h tt
-    right takesImm h = tt
-    right takesInput h = right-takes (i .d) (v .input) refl
-    right (one f) h = tt
-    right (two f) h = tt
-    right load h = right-if (leb (i .b) A) 16 _ refl tt
-    right store h = right-if (leb (i .b) A) 16 _ refl tt
-    right goto h = tt
-    right gotoIf h = right-goes A (i .imm) (suc (v .place))
-    right waitEvent h = tt
-    right waitTime h = right-asks true (v .times) due (waits (till due))
-    right notify h = right-if late 18 _ refl tt
-    right notifyAfter h = right-if late 18 _ refl (right-asks (isNever (v .kernel .pends (i .d))) (v .times) due (asks (i .d) due))
-    right request h = right-if late 18 _ refl tt
-    right suspend h = right-if late 18 _ refl tt
-    right resume h = right-if late 18 _ refl tt
-    right startLimit h = right-starts (v .kernel .stage) (found (i .imm))
-    right start h = right-starts (v .kernel .stage) none
-    right unknown h = absurd h
-
+module _ (t : Table) where
   -- an accepted table has no unknown op in its bodies
   no-unknown : (k p : ℕ) → k < threads t + updates t + 1 → p < lengthOf t k → usesOf (instruction t k p .op) ≡ Unknown → judged t .number ≡ 0 → ⊥
   unfolding instructionFault bodies
@@ -202,13 +126,13 @@ module _ (t : Table) (v : View) where
       let z : _≡_ {A = ℕ} 4 0 = rw q at e in
       omega arith
 
-  pub right-instruction : (k p : ℕ) → k < threads t + updates t + 1 → p < lengthOf t k → Right t v (effect v (instruction t k p) (meaningOf (instruction t k p .op)))
-  unfolding meaningOf usesOf effect
-  right-instruction k p l m = by (look-sound ops (instruction t k p .op) sound-ops)
+  pub found-sound : (k p : ℕ) → k < threads t + updates t + 1 → p < lengthOf t k → Sound (meaningOf (instruction t k p .op)) ⊎ ((meaningOf (instruction t k p .op) ≡ unknown) × (judged t .number ≡ 0 → ⊥))
+  unfolding meaningOf usesOf
+  found-sound k p l m = by (look-sound ops (instruction t k p .op) sound-ops)
     where
-      i : Frame
-      i = instruction t k p
+      o : ℕ
+      o = instruction t k p .op
 
-      by : Sound (lookMeaning ops (i .op)) ⊎ ((lookMeaning ops (i .op) ≡ unknown) × (look ops (i .op) ≡ Unknown)) → Right t v (effect v i (lookMeaning ops (i .op)))
-      by (inl h) = right i (lookMeaning ops (i .op)) h
-      by (inr e) = rw (e .0) (inr (refl, no-unknown k p l m (e .1)))
+      by : Sound (lookMeaning ops o) ⊎ ((lookMeaning ops o ≡ unknown) × (look ops o ≡ Unknown)) → Sound (lookMeaning ops o) ⊎ ((lookMeaning ops o ≡ unknown) × (judged t .number ≡ 0 → ⊥))
+      by (inl h) = inl h
+      by (inr e) = inr (e .0, no-unknown k p l m (e .1))

@@ -6,10 +6,8 @@ use mathlib.Core.Logic.{inl}
 use mathlib.Core.List.{List, _∷_, _++_, append-assoc}
 use borrow.Author.Tests.{le-ltb, ltb-true}
 use Rattle.laws.specs.Choice.{if_then_else_}
-use Rattle.frame.specs.declared.Frame.{Frame}
-use Rattle.frame.specs.Ops.{meaningOf}
 use Rattle.kernel.specs.Search.{addIf, each}
-use Rattle.kernel.specs.Design.{Table, Body, main, threads, number, lengthOf, instruction}
+use Rattle.kernel.specs.Design.{Table, Body, main, threads, number, lengthOf}
 use Rattle.kernel.specs.Kernel.{Due, delta, at, Kernel, Deed, nothing, reads, notifies, asks, waits, requests, suspends, resumes, Happening, ran, triggered, freed, resumed, dispatched, moved, History, Stage, before, during, past, kernel}
 use Rattle.kernel.specs.Pending.{served}
 use Rattle.kernel.specs.Effect.{Effect, stops, sets, takes, goes, does, begins}
@@ -28,7 +26,6 @@ use Rattle.kernel.proofs.Enough.{enough}
 use Rattle.kernel.proofs.Words.{thread-ended, time-now, stage-now, runnable-runs}
 use Rattle.kernel.proofs.Ahead.{Allowed, allowed}
 use Rattle.kernel.proofs.Rightly.{Standing, some-runnable, Inv, inv-step}
-use Rattle.kernel.proofs.Stops.{Right, right-instruction}
 
 -- Serving counts as nothing --------------------------------------------------------------------------------------
 
@@ -106,22 +103,21 @@ module _ (j : Job) (s : State) (c : CountsOf (s .machine) (s .history)) where
   abbrev IsDue : Body → Type 0
   IsDue b = m .places (number t b) < lengthOf t (number t b)
 
-  performs : (b : Body) (x : Effect) (v : ℕ) (g : Stage) → Allowed v g x → Right t (view j s b) x → IsDue b → Fits t (kernel h) (running b) → TellsOf (perform j s b x)
+  performs : (b : Body) (x : Effect) (v : ℕ) (g : Stage) → Allowed t (view j s b .input) v g x → IsDue b → Fits t (kernel h) (running b) → TellsOf (perform j s b x)
   unfolding perform count
-  performs b (stops n) v g a r d f = record { counts = c; why = stopped (body-there t (kernel h) b f) d r }
-  performs b (sets d x) v g a r l f = record { counts = record { instructions = ap suc (c .instructions); choices = c .choices; inputs = c .inputs }; why = tt }
-  performs b (takes d x) v g a r l f = record { counts = record { instructions = ap suc (c .instructions); choices = c .choices; inputs = ap suc (c .inputs) }; why = tt }
-  performs b (goes p) v g a r l f = record { counts = record { instructions = ap suc (c .instructions); choices = c .choices; inputs = c .inputs }; why = tt }
-  performs b (does x) v g a r l f = record {
+  performs b (stops n) v g a d f = record { counts = c; why = stopped (body-there t (kernel h) b f) d a }
+  performs b (sets d x) v g a l f = record { counts = record { instructions = ap suc (c .instructions); choices = c .choices; inputs = c .inputs }; why = tt }
+  performs b (takes d x) v g a l f = record { counts = record { instructions = ap suc (c .instructions); choices = c .choices; inputs = ap suc (c .inputs) }; why = tt }
+  performs b (goes p) v g a l f = record { counts = record { instructions = ap suc (c .instructions); choices = c .choices; inputs = c .inputs }; why = tt }
+  performs b (does x) v g a l f = record {
     counts = record { instructions = ap suc (c .instructions); choices = rw (ran-only b x) (c .choices); inputs = rw (a .1 b) (c .inputs) };
     why = on-either j s (WhyAt j (ran b x ∷ h)) (λ e. tt) tt b _;
   }
-  performs b (begins x) v g a r l f = record { counts = record { instructions = ap suc (c .instructions); choices = c .choices; inputs = c .inputs }; why = tt }
+  performs b (begins x) v g a l f = record { counts = record { instructions = ap suc (c .instructions); choices = c .choices; inputs = c .inputs }; why = tt }
 
   obeys : (b : Body) → IsDue b → Fits t (kernel h) (running b) → TellsOf (perform j s b (effectOf j s b))
   obeys b d f =
-      let i : Frame = instruction t (number t b) (m .places (number t b)) in
-      performs b (effectOf j s b) _ _ (allowed (view j s b) i (meaningOf (i .op))) (right-instruction t (view j s b) (number t b) (m .places (number t b)) (body-there t (kernel h) b f) d) d f
+      performs b (effectOf j s b) _ _ (allowed t (view j s b) (number t b) (m .places (number t b)) (body-there t (kernel h) b f) d) d f
 
   main-ends : (g : Stage) → clock h .stage ≡ g → (clock h .stage ≡ during → ⊥) → Why j h (phaseNumber j s g) 0xff 0
   main-ends before q n = no-start q
@@ -131,7 +127,7 @@ module _ (j : Job) (s : State) (c : CountsOf (s .machine) (s .history)) where
   tells-branch : (a : Control) (o : Out) → Branch j s a o → Rightly t h → Fits t (kernel h) a → Standing t h a → WhyAt j h a → TellsOf o
   unfolding count
   tells-branch a o (B.obeys b q r) p f g y = obeys b (ltb-true _ _ q) f
-  tells-branch a o (B.unpaid b q r) p f g y = performs b (stops 22) 0 before tt (inl refl) (ltb-true _ _ q) f
+  tells-branch a o (B.unpaid b q r) p f g y = performs b (stops 22) 0 before (inl refl) (ltb-true _ _ q) f
   tells-branch a o (B.main-ends q) p f g y = record { counts = c; why = main-ends (kernel h .stage) (sym (stage-now h)) g }
   tells-branch a o (B.thread-ends i q) p f g y = record { counts = record { instructions = c .instructions; choices = c .choices; inputs = c .inputs }; why = tt }
   tells-branch a o (B.update-ends u q) p f g y = record { counts = record { instructions = c .instructions; choices = c .choices; inputs = c .inputs }; why = tt }

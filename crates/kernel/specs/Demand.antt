@@ -12,6 +12,7 @@ use Rattle.kernel.specs.Search.{Found, none, found, nth}
 use Rattle.kernel.specs.Design.{Table, main, thread, update, threads, updates, lengthOf}
 use Rattle.kernel.specs.Kernel.{Due, delta, at, Wait, on, till, Happening, ran, triggered, freed, resumed, ended, dispatched, finished, began, moved, quiet, limited, History, before, past, kernel}
 use Rattle.kernel.specs.Pending.{runnable, isRequested}
+use Rattle.kernel.specs.Effect.{lastTime}
 use Rattle.kernel.specs.Machine.{Job, Control, running, updatePhase, deltaPhase, turn, evaluation, timePhase, over, State, init}
 use Rattle.kernel.specs.Step.{stepFrom, step, steps}
 use Rattle.kernel.specs.Run.{Answer, outcomeOf, bound, asked}
@@ -172,7 +173,7 @@ pub record Kept (j : Job) (s : State) : Type 0 where
   pub frees : (x : Happening) (g : History) → Moment (x ∷ g) (s .history) → (i : ℕ) (w : Wait) → Waits i w g → endsWait i w x ≡ true → Unheld i (x ∷ g)
   -- time never goes backwards, nor above 4,294,967,295
   pub never-back : (g : History) → Moment g (s .history) → clock g .time ≤ clock (s .history) .time
-  pub in-range : clock (s .history) .time ≤ 4294967295
+  pub in-range : clock (s .history) .time ≤ lastTime
   -- time moves, and the phase ends as quiet or as limit, exactly when
   pub time : s .machine .control ≡ timePhase → Time j s
   pub ends-quiet : InPhase (s .machine .control) → Nothing (j .table) (s .history) ↔ Comes j s quiet

@@ -66,11 +66,15 @@ isNever never = true
 isNever delta = false
 isNever (at t) = false
 
+-- the last time there is
+abbrev pub lastTime : ℕ
+lastTime = 4294967295
+
 -- "17: a due time asked for is above 4,294,967,295, even if an earlier one would stay"; "23: a due time is to be added and 48 stand"
 abbrev pub asksFor : Bool → ℕ → Due → Deed → Effect
 asksFor adds n never x = does x
 asksFor adds n delta x = does x
-asksFor adds n (at t) x = stopIf (ltb 4294967295 t) 17 (stopIf (adds && leb 48 n) 23 (does x))
+asksFor adds n (at t) x = stopIf (ltb lastTime t) 17 (stopIf (adds && leb 48 n) 23 (does x))
 
 module _ (v : View) (i : Frame) where
   abbrev cell : ℕ → ℕ
