@@ -4,7 +4,7 @@ use mathlib.Core.Path.{◌≡◌, refl, sym, ap, ◌∙◌}
 use mathlib.Core.Bool.{Bool, true, false, true≢false}
 use mathlib.Core.List.{List}
 use native.Mathlib.Omega.{arith}
-use borrow.Author.Tests.{not_true, ltb-true, ne_eqb}
+use borrow.Author.Tests.{not-true, ltb-true, ne_eqb}
 use lib.Dec.{ltb}
 use lib.ListN.{length, get_or}
 use Rattle.laws.specs.Choice.{if◌then◌else◌, and_left, and_right}
@@ -47,7 +47,7 @@ module _ (n : Now) (k : ℕ) (c : Control) (a : Bool) (h : a ≡ any_runs n.mark
 one_of_lem : (m : Marks) (c : ℕ) → may_run m c ≡ true → any_runs m ≡ true
 unfolding may_run any_runs
 one_of_lem m c e =
-    rw (ne_eqb (idle m % 4294967296) 4294967295 (not_full (idle m) c (ltb-true c 32 (and_left (ltb c 32) _ e)) (not_true (has (idle m) c) (and_right (ltb c 32) _ e))))
+    rw (ne_eqb (idle m % 4294967296) 4294967295 (not_full (idle m) c (ltb-true c 32 (and_left (ltb c 32) _ e)) (not-true (has (idle m) c) (and_right (ltb c 32) _ e))))
 
 module _ (choices : List ℕ) (n : Now) (r : Choice) (h : r ≡ choice_by (nth choices n.chosen) n.marks) where
   pub choice_there : (c : ℕ) → r ≡ Thread c → n.chosen < length choices

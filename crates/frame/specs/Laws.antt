@@ -2,7 +2,7 @@
 use Rattle.std.specs.Prelude.{ℕ, ◌≤◌, ◌≡◌, Bool, true, false, not, eqb}
 use Rattle.std.proofs.Math.Path.{refl}
 use Rattle.std.proofs.Common.{arith}
-use borrow.Author.Tests.{not_true, not-false}
+use borrow.Author.Tests.{not-true, not-false}
 use Rattle.laws.specs.Choice.{if◌then◌else◌}
 use Rattle.laws.specs.Unique.{one_answer}
 use Rattle.frame.specs.declared.Frame.{Frame}
@@ -23,27 +23,27 @@ module _ (c : Counts) (kind : Kind) (n : ℕ) (f : Frame) (k : Known) where
 
   pub fault_not_held : (u : Uses) (m : Bool) → k ≡ uses_of f.op → k ≡ Op u → m ≡ held_by kind u.bodies → not m ≡ true → 4 ≡ instruction_fault c kind n f
   unfolding instruction_fault
-  fault_not_held u m h e g t = rw (← h, e, ← g, not_true m t)
+  fault_not_held u m h e g t = rw (← h, e, ← g, not-true m t)
 
   module _ (u : Uses) (m d : Bool) (h : k ≡ uses_of f.op) (e : k ≡ Op u) (g : m ≡ held_by kind u.bodies) (t : not m ≡ false) (gd : d ≡ fits c n f.b u.d f.d) where
     pub fault_d : not d ≡ true → 5 ≡ instruction_fault c kind n f
     unfolding instruction_fault
-    fault_d td = rw (← h, e, ← g, not-false m t, ← gd, not_true d td)
+    fault_d td = rw (← h, e, ← g, not-false m t, ← gd, not-true d td)
 
     module _ (a : Bool) (td : not d ≡ false) (ga : a ≡ fits c n f.b u.a f.a) where
       pub fault_a : not a ≡ true → 5 ≡ instruction_fault c kind n f
       unfolding instruction_fault
-      fault_a ta = rw (← h, e, ← g, not-false m t, ← gd, not-false d td, ← ga, not_true a ta)
+      fault_a ta = rw (← h, e, ← g, not-false m t, ← gd, not-false d td, ← ga, not-true a ta)
 
       module _ (b : Bool) (ta : not a ≡ false) (gb : b ≡ fits c n f.b u.b f.b) where
         pub fault_b : not b ≡ true → 5 ≡ instruction_fault c kind n f
         unfolding instruction_fault
-        fault_b tb = rw (← h, e, ← g, not-false m t, ← gd, not-false d td, ← ga, not-false a ta, ← gb, not_true b tb)
+        fault_b tb = rw (← h, e, ← g, not-false m t, ← gd, not-false d td, ← ga, not-false a ta, ← gb, not-true b tb)
 
         module _ (i : Bool) (tb : not b ≡ false) (gi : i ≡ fits c n f.b u.imm f.imm) where
           pub fault_imm : not i ≡ true → 5 ≡ instruction_fault c kind n f
           unfolding instruction_fault
-          fault_imm ti = rw (← h, e, ← g, not-false m t, ← gd, not-false d td, ← ga, not-false a ta, ← gb, not-false b tb, ← gi, not_true i ti)
+          fault_imm ti = rw (← h, e, ← g, not-false m t, ← gd, not-false d td, ← ga, not-false a ta, ← gb, not-false b tb, ← gi, not-true i ti)
 
           pub fault_none : not i ≡ false → 0 ≡ instruction_fault c kind n f
           unfolding instruction_fault

@@ -14,7 +14,7 @@ use Rattle.frame.specs.Fault.{instruction_fault}
 use Rattle.frame.specs.Laws.{fault_small as instruction_small}
 use Rattle.image.specs.Limits.{most_threads, most_events, most_updates, most_cells, most_instructions, most_lines}
 use Rattle.image.specs.Layout.{frame, counts, kind_of, bodies, len, lengths, first, due, body_at}
-use Rattle.image.specs.Judge.{Said, say, header_fits, body_fits, header_fault, body_fault, fault, ending, or_else_lem, rest, look, judged}
+use Rattle.image.specs.Judge.{Said, say, header_fits, body_fits, header_fault, body_fault, fault, ending, or_else, rest, look, judged}
 use Rattle.image.specs.First.{FirstFault, Faultless, Answers, faulty, short, extra, accepted, Exactly}
 use Rattle.image.proofs.Walk.{fault_header, fault_body, fault_instruction, fault_past, first_next, first_grows, due_above, whole, rest_fine, rest_fault, rest_end, ends_short, ends_extra, ends_done}
 
@@ -102,7 +102,7 @@ module _ (fs : List ℕ) where
   one_more i f e j h (yes q) = rw q e
   one_more i f e j h (no q) = f j (omega arith)
 
-  by_fault : (i k : ℕ) (s : Said) → fault fs i ≡ k → i < length fs → ((j : ℕ) → j < i → fault fs j ≡ 0) → (fault fs i ≡ 0 → Answers fs s) → Answers fs (or_else_lem k i s)
+  by_fault : (i k : ℕ) (s : Said) → fault fs i ≡ k → i < length fs → ((j : ℕ) → j < i → fault fs j ≡ 0) → (fault fs i ≡ 0 → Answers fs s) → Answers fs (or_else k i s)
   by_fault i zero s e h f g = g e
   by_fault i (suc k) s e h f g = faulty (suc k) i (record { there = h; number = e; some = omega arith; before = f })
 

@@ -64,14 +64,14 @@ ending fs =
     else say 0 (length fs))
 
 -- a fault is what is said; without one, what comes after
-abbrev pub or_else_lem : (number i : ℕ) → Said → Said
-or_else_lem zero i s = s
-or_else_lem (suc k) i s = say (suc k) i
+abbrev pub or_else : (number i : ℕ) → Said → Said
+or_else zero i s = s
+or_else (suc k) i s = say (suc k) i
 
 -- the first faulty line of the n lines from line i on, else what the end says
 unfoldable pub look : List ℕ → (i n : ℕ) → Said
 look fs i zero = ending fs
-look fs i (suc n) = or_else_lem (fault fs i) i (look fs (suc i) n)
+look fs i (suc n) = or_else (fault fs i) i (look fs (suc i) n)
 
 -- the answer of the lines from line i on: a word for laws and private contracts
 unfoldable pub rest : List ℕ → ℕ → Said

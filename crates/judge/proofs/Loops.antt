@@ -5,7 +5,7 @@ use mathlib.Core.Bool.{Bool, true, false, not}
 use mathlib.Core.List.{List}
 use native.Mathlib.Omega.{arith}
 use native.Mathlib.Numerals.{add-one}
-use borrow.Author.Tests.{not_true, not-false, lt-leb, le-leb}
+use borrow.Author.Tests.{not-true, not-false, lt-leb, le-leb}
 use lib.ListN.{length, get_or}
 use Rattle.laws.specs.Choice.{if◌then◌else◌}
 use Rattle.frame.specs.Fields.{fields}
@@ -136,7 +136,7 @@ module _ (fs : List ℕ) (c : Counts) (k : ℕ) (b : Begun fs c) (q : rest fs 1 
   module _ (f : Frame) (t : ℕ) (h : k + 1 < length fs) (d : f ≡ fields (get_or fs (k + 1) 0)) where
     pub heads_bad : (v : Bool) → v ≡ body_fits f → not v ≡ true → say 3 (k + 1) ≡ rest fs 1
     unfolding body_fault
-    heads_bad v e z = rw q (rest_fault fs (k + 1) 2 h (fault_body fs k below ∙ rw (← d, ← e, not_true v z)))
+    heads_bad v e z = rw q (rest_fault fs (k + 1) 2 h (fault_body fs k below ∙ rw (← d, ← e, not-true v z)))
 
     pub heads_sum : t ≡ lengths fs k → t + f.imm ≡ lengths fs (k + 1)
     unfolding lengths len
@@ -180,7 +180,7 @@ module _ (fs : List ℕ) where
     the_header z = fault_header fs ∙ rw (← d, ← e, z)
 
     pub judge_header : not v ≡ true → say 2 0 ≡ judged fs
-    judge_header z = rw (whole fs) (rest_fault fs 0 1 (omega arith) (the_header (not_true v z)))
+    judge_header z = rw (whole fs) (rest_fault fs 0 1 (omega arith) (the_header (not-true v z)))
 
     pub judge_begun : (c : Counts) → c ≡ counts_of h → Begun fs c
     unfolding counts

@@ -51,7 +51,7 @@ module _ (j : Job) (s : State) where
   by_when c true x y f g = f refl
   by_when c false x y f g = g refl
 
-  by_given : (c : Control) (f : Found) (x : Out) (g : ℕ → Out) → (f ≡ none → Branch c x) → ((n : ℕ) → f ≡ found n → Branch c (g n)) → Branch c (given f or_else_lem x take g)
+  by_given : (c : Control) (f : Found) (x : Out) (g : ℕ → Out) → (f ≡ none → Branch c x) → ((n : ℕ) → f ≡ found n → Branch c (g n)) → Branch c (given f or_else x take g)
   unfolding given◌or_else◌take◌
   by_given c none x g p q = p refl
   by_given c (found n) x g p q = q n refl

@@ -6,7 +6,7 @@ use mathlib.Core.Logic.{◌⊎◌, inl, inr}
 use mathlib.Core.List.{[], ◌∷◌}
 use native.Mathlib.Omega.{arith}
 use lib.Dec.{eqb, ltb, leb}
-use borrow.Author.Tests.{eqb-true, eq-eqb, ltb-true, lt-ltb, not_true, leb-true, leb-false}
+use borrow.Author.Tests.{eqb-true, eq-eqb, ltb-true, lt-ltb, not-true, leb-true, leb-false}
 use Rattle.laws.specs.Choice.{if◌then◌else◌, and_left, and_right}
 use Rattle.kernel.specs.Design.{Table, Body, main, thread, update, threads, updates}
 use Rattle.kernel.specs.Kernel.{Due, never, delta, at, earlier, Wait, free, on, till, Thread, waiting, standing, ending, suspending, asks_back, free_on, free_timed, Kernel, nothing, reads, notifies, asks, waits, requests, suspends, resumes, Happening, ran, triggered, freed, resumed, ended, dispatched, finished, began, moved, quiet, limited, History, during, past, after, kernel}
@@ -397,8 +397,8 @@ runs_runnable t h i p r =
     let f : is_free (k.threads i).wait ≡ true = and_right (not (k.threads i).ended) (is_free (k.threads i).wait) b in
     record {
       there = ltb-true i (threads t) (and_left (ltb i (threads t)) _ r);
-      not_ended = sym (thread_ended h i) ∙ not_true (k.threads i).ended (and_left (not (k.threads i).ended) (is_free (k.threads i).wait) b);
-      not_suspended = sym (thread_suspended h i) ∙ not_true (k.threads i).suspended (and_right (not (k.threads i).ended && is_free (k.threads i).wait) (not (k.threads i).suspended) a);
+      not_ended = sym (thread_ended h i) ∙ not-true (k.threads i).ended (and_left (not (k.threads i).ended) (is_free (k.threads i).wait) b);
+      not_suspended = sym (thread_suspended h i) ∙ not-true (k.threads i).suspended (and_right (not (k.threads i).ended && is_free (k.threads i).wait) (not (k.threads i).suspended) a);
       no_event = λ e w. true≢false (sym f ∙ ap is_free (waits_on_lem t h i (on e) refl p w));
       no_time = λ d w. true≢false (sym f ∙ ap is_free (waits_on_lem t h i (till d) refl p w));
     }

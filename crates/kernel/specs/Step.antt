@@ -117,10 +117,10 @@ module _ (j : Job) (s : State) where
   -- "20: choices used up with a thread runnable"; "21: choice names a thread that isn't runnable"
   step_from evaluation =
       when some_runnable
-      then (given nth j.choices m.choices or_else_lem ends 20 take (λ c. when runnable t k c then dispatch c else ends 21))
+      then (given nth j.choices m.choices or_else ends 20 take (λ c. when runnable t k c then dispatch c else ends 21))
       else to update_phase
   -- "the requested updates run, each once, by rising number .. Then the delta phase"
-  step_from update_phase = given first (is_requested t k) (updates t) or_else_lem to delta_phase take enter
+  step_from update_phase = given first (is_requested t k) (updates t) or_else to delta_phase take enter
   -- "the delta phase: all delta work is done together"
   step_from delta_phase = out (served t k delta) (go_to turn m)
   -- "If a thread is runnable, evaluation follows, else time."
@@ -128,7 +128,7 @@ module _ (j : Job) (s : State) where
   -- "Time: the least due time of events and threads. None: the phase is quiet. Above the limit: it ends, and time stays.
   -- Otherwise time becomes it, all due then is triggered or freed together, and evaluation follows, or the time step again"
   step_from time_phase =
-      given least_time t k or_else_lem closes quiet take (λ d. when above d k.limit then closes limited else move_to d)
+      given least_time t k or_else closes quiet take (λ d. when above d k.limit then closes limited else move_to d)
   step_from (over n b p) = to (over n b p)
 
 abbrev pub advance : State → Out → State

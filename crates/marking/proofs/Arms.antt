@@ -2,7 +2,7 @@
 use Prim.Native.Nat.{ℕ}
 use mathlib.Core.Path.{◌≡◌}
 use mathlib.Core.Bool.{Bool, true, false, not}
-use borrow.Author.Tests.{not_true, not-false}
+use borrow.Author.Tests.{not-true, not-false}
 use Rattle.sets.specs.Sets.{has, with, without}
 use Rattle.marks.specs.declared.Marks.{Marks}
 use Rattle.marks.specs.Marks.{with_resuming, with_ended, with_requested, waits_till, suspended, resumed, ended_by, requested_by, finished_by}
@@ -31,7 +31,7 @@ module _ (m r : Marks) (i : ℕ) (b d : Bool) where
 
   pub active_stays : b ≡ has m.suspended i → not b ≡ true → m ≡ resumed i m
   unfolding resumed
-  active_stays h k = rw (← h, not_true b k)
+  active_stays h k = rw (← h, not-true b k)
 
   pub ended_stays : not b ≡ false → b ≡ has m.suspended i → d ≡ has m.ended i → d ≡ true → m ≡ resumed i m
   unfolding resumed
