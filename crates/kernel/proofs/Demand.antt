@@ -178,8 +178,8 @@ kept j n =
       ahead = λ u w.
           let p : Pending j.table (kernel s.history) (at u) = stands_pending j.table s.history (at u) r w in
           (subst (Ahead (clock s.history).time) p.due (i.sound.later p.work p.within)).0;
-      holds = λ a e. (on_waits s.history a (on e) refl, waits_on_lem j.table s.history a (on e) refl r);
-      sleeps = λ a d. (on_waits s.history a (till d) refl, waits_on_lem j.table s.history a (till d) refl r);
+      holds = λ a e. (on_waits s.history a (on e) refl, waits_on_lem j.table a (on e) refl s.history r);
+      sleeps = λ a d. (on_waits s.history a (till d) refl, waits_on_lem j.table a (till d) refl s.history r);
       marks = record {
         ended = thread_ended s.history;
         suspended = thread_suspended s.history;

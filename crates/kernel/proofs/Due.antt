@@ -42,7 +42,7 @@ at_delta u q = let z : ◌≡◌ {A = ℕ} 0 1 = cc in omega arith
 
 pub due_in_lem : (t : Table) (h : History) → Rightly t h → (x : Work) (d : Due) → DueAt h x d → due_in (kernel h) x ≡ d
 due_in_lem t h p (event e) d w = pends_one h e ((kernel h).pends e) d (pends h e) w
-due_in_lem t h p (wait i) d w = ap due_of (waits_on_lem t h i (till d) refl p w)
+due_in_lem t h p (wait i) d w = ap due_of (waits_on_lem t i (till d) refl h p w)
 due_in_lem t h p (resume i) d w = ap resume_due (thread_resuming h i ∙ w.0) ∙ w.1
 
 pub in_due : (h : History) (x : Work) (d : Due) → (d ≡ never → ⊥) → due_in (kernel h) x ≡ d → DueAt h x d

@@ -1,6 +1,6 @@
 -- What holds where the machine stands, and every step keeps it: a running thread is runnable, and a running update requested.
 use Prim.Native.Nat.{ℕ, ◌+◌, ◌<◌}
-use mathlib.Core.Path.{◌≡◌, refl}
+use mathlib.Core.Path.{◌≡◌, refl, sym, subst}
 use mathlib.Core.Bool.{Bool, true, false, ◌&&◌}
 use mathlib.Core.List.{◌∷◌, ◌++◌}
 use native.Mathlib.Omega.{arith}
@@ -89,7 +89,7 @@ module _ (j : Job) (s : State) where
   -- and a body goes on where nothing is asked of the kernel
   goes_on : (b : Body) (x : Deed) → after (ran b x) k ≡ k → Fits t k (running b) → Fits t (kernel (ran b x ∷ s.history)) (running b)
   unfolding kernel
-  goes_on b x q f = rw q f
+  goes_on b x q f = subst (λ (u : Kernel). Fits t u (running b)) (sym q) f
 
   fits_perform : (b : Body) (x : Effect) → Fits t k (running b) → Kept (perform j s b x)
   unfolding perform after

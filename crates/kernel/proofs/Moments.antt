@@ -47,7 +47,7 @@ module _ (t : Table) where
   module _ (x : Happening) (g : History) (p : Rightly t (x ∷ g)) (i : ℕ) where
     free_then : (w : Wait) → is_free w ≡ false → Waits i w g → ends_wait i w x ≡ true → ((kernel (x ∷ g)).threads i).wait ≡ free
     unfolding kernel
-    free_then w f a q = go ((after x (kernel g)).threads i).wait (wait_step x i (kernel g)) (waits_on_lem t g i w f p.2 a)
+    free_then w f a q = go ((after x (kernel g)).threads i).wait (wait_step x i (kernel g)) (waits_on_lem t i w f g p.2 a)
       where
         go : (v : Wait) → WaitStep i x ((kernel g).threads i).wait v → ((kernel g).threads i).wait ≡ w → v ≡ free
         go v (wait_begins u e) z = absurd (true≢false (sym q ∙ ap (ends_wait i w) e ∙ no_end i w u))
@@ -56,8 +56,8 @@ module _ (t : Table) where
 
     unheld : ((kernel (x ∷ g)).threads i).wait ≡ free → Unheld i (x ∷ g)
     unheld f = record {
-      no_event = λ e a. true≢false (ap is_free (sym f ∙ waits_on_lem t (x ∷ g) i (on e) refl p a));
-      no_time = λ d a. true≢false (ap is_free (sym f ∙ waits_on_lem t (x ∷ g) i (till d) refl p a));
+      no_event = λ e a. true≢false (ap is_free (sym f ∙ waits_on_lem t i (on e) refl (x ∷ g) p a));
+      no_time = λ d a. true≢false (ap is_free (sym f ∙ waits_on_lem t i (till d) refl (x ∷ g) p a));
     }
 
     pub frees_at : (w : Wait) → Waits i w g → ends_wait i w x ≡ true → Unheld i (x ∷ g)

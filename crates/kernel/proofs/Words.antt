@@ -238,10 +238,10 @@ earlier_pick (at t) (at u) = go (leb t u)
     go true = inl refl
     go false = inr refl
 
-earliest : (h : History) (e : ℕ) (d : Due) → Asked e d h → NotLater ((kernel h).pends e) d
+earliest : (e : ℕ) (d : Due) (h : History) → Asked e d h → NotLater ((kernel h).pends e) d
 unfolding kernel after
-earliest h e d (asks_now {b = b} {h = r}) = rw (eq-eqb e e refl) (earlier_left d ((kernel r).pends e))
-earliest h e d (asks_yet {x = x} {h = r} q a) = go ((after x (kernel r)).pends e) (pend_step x e (kernel r)) (earliest r e d a)
+earliest e d h (asks_now {b = b} {h = r}) = rw (eq-eqb e e refl) (earlier_left d ((kernel r).pends e))
+earliest e d h (asks_yet {x = x} {h = r} q a) = go ((after x (kernel r)).pends e) (pend_step x e (kernel r)) (earliest e d r a)
   where
     go : (p : Due) → PendStep e x ((kernel r).pends e) p → NotLater ((kernel r).pends e) d → NotLater p d
     go p (pend_drops z) n = absurd (true≢false (sym z ∙ q))
@@ -267,7 +267,7 @@ stands (x ∷ h) e = go ((after x (kernel h)).pends e) (pend_step x e (kernel h)
     go p (pend_stays z) s = carry ((kernel h).pends e) z refl s
 
 pub pends : (h : History) (e : ℕ) → Pends h e ((kernel h).pends e)
-pends h e = record { earliest = earliest h e; stands = stands h e }
+pends h e = record { earliest = λ d a. earliest e d h a; stands = stands h e }
 
 later_never : (q : Due) → NotLater never q → q ≡ never
 later_never never n = refl
@@ -377,10 +377,10 @@ no_wait t h i (on e) f r a = r.no_event e a
 no_wait t h i (till d) f r a = r.no_time d a
 
 -- so a wait is over before the next one begins
-pub waits_on_lem : (t : Table) (h : History) (i : ℕ) (w : Wait) → is_free w ≡ false → Rightly t h → Waits i w h → ((kernel h).threads i).wait ≡ w
+pub waits_on_lem : (t : Table) (i : ℕ) (w : Wait) → is_free w ≡ false → (h : History) → Rightly t h → Waits i w h → ((kernel h).threads i).wait ≡ w
 unfolding kernel after
-waits_on_lem t h i w f p (waits_now {h = r}) = rw (eq-eqb i i refl)
-waits_on_lem t h i w f p (waits_yet {x = x} {h = r} q a) = go ((after x (kernel r)).threads i).wait (wait_step x i (kernel r)) (waits_on_lem t r i w f p.2 a)
+waits_on_lem t i w f h p (waits_now {h = r}) = rw (eq-eqb i i refl)
+waits_on_lem t i w f h p (waits_yet {x = x} {h = r} q a) = go ((after x (kernel r)).threads i).wait (wait_step x i (kernel r)) (waits_on_lem t i w f r p.2 a)
   where
     go : (v : Wait) → WaitStep i x ((kernel r).threads i).wait v → ((kernel r).threads i).wait ≡ w → v ≡ w
     go v (wait_begins u e) z = absurd (no_wait t r i w f (subst (Might t r) e p.1).0 a)
@@ -399,8 +399,8 @@ runs_runnable t h i p r =
       there = ltb-true i (threads t) (and_left (ltb i (threads t)) _ r);
       not_ended = sym (thread_ended h i) ∙ not-true (k.threads i).ended (and_left (not (k.threads i).ended) (is_free (k.threads i).wait) b);
       not_suspended = sym (thread_suspended h i) ∙ not-true (k.threads i).suspended (and_right (not (k.threads i).ended && is_free (k.threads i).wait) (not (k.threads i).suspended) a);
-      no_event = λ e w. true≢false (sym f ∙ ap is_free (waits_on_lem t h i (on e) refl p w));
-      no_time = λ d w. true≢false (sym f ∙ ap is_free (waits_on_lem t h i (till d) refl p w));
+      no_event = λ e w. true≢false (sym f ∙ ap is_free (waits_on_lem t i (on e) refl h p w));
+      no_time = λ d w. true≢false (sym f ∙ ap is_free (waits_on_lem t i (till d) refl h p w));
     }
 
 pub runnable_runs : (t : Table) (h : History) (i : ℕ) → Runnable t h i → runnable t (kernel h) i ≡ true
