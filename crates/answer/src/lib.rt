@@ -9,7 +9,7 @@ use turns::{Control, Now};
 // What a run answers: its number, the body and place of the stopping instruction, the time, the instructions completed, the choices
 // accepted, the inputs taken, and the threads not ended, thread 0 as bit 0. C callers get it as it is.
 #[repr(C)]
-#[derive(Drop)]
+#[derive(Clone, Copy)]
 pub struct Answer {
     pub number: u32,
     pub body: u32,

@@ -12,7 +12,7 @@ pub const LAST_TIME: u64 = 4294967296;
 pub const NOTHING: u64 = 4294967297;
 
 // A due time or nothing.
-#[derive(Drop)]
+#[derive(Clone, Copy)]
 pub enum Due {
     At(u32),
     Nothing,

@@ -9,7 +9,7 @@ use word::Outcome;
 
 // What a plain instruction comes to, at whatever place it stands: a cell takes a value and the body goes on at the next place; the
 // body just goes on there; it goes on elsewhere; the run stops with a number; or the instruction is not plain.
-#[derive(Drop)]
+#[derive(Clone, Copy)]
 pub enum Eff {
     Put(usize, u32),
     Next,

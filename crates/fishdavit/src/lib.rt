@@ -12,7 +12,7 @@ use image::Verdict;
 
 // Document 01's number, and the line of the first fault or the count that was done.
 #[repr(C)]
-#[derive(Drop)]
+#[derive(Clone, Copy)]
 pub struct FishdavitVerdict {
     pub number: u32,
     pub line: u32,

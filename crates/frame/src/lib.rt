@@ -5,7 +5,7 @@ ghost use Rattle.std.specs.Prelude.{◌≡◌};
 ghost use Rattle.frame.specs.Fields.{fields};
 
 // A frame's fields.
-#[derive(Drop)]
+#[derive(Clone, Copy)]
 pub struct Frame {
     pub op: u8,
     pub d: u8,
@@ -15,7 +15,7 @@ pub struct Frame {
 }
 
 // The counts that a header gives.
-#[derive(Drop)]
+#[derive(Clone, Copy)]
 pub struct Counts {
     pub threads: u8,
     pub events: u8,
@@ -24,7 +24,7 @@ pub struct Counts {
 }
 
 // The kinds of body.
-#[derive(Drop)]
+#[derive(Clone, Copy)]
 pub enum Kind {
     Main,
     Thread,
@@ -32,7 +32,7 @@ pub enum Kind {
 }
 
 // What a field is used for.
-#[derive(Drop)]
+#[derive(Clone, Copy)]
 pub enum Use {
     Unused,
     Cell,
@@ -46,7 +46,7 @@ pub enum Use {
 }
 
 // The bodies that may hold an op.
-#[derive(Drop)]
+#[derive(Clone, Copy)]
 pub enum Bodies {
     All,
     MainAndThreads,
@@ -55,7 +55,7 @@ pub enum Bodies {
 }
 
 // What an op uses each field for, and where it may stand.
-#[derive(Drop)]
+#[derive(Clone, Copy)]
 pub struct Uses {
     pub d: Use,
     pub a: Use,
@@ -64,14 +64,14 @@ pub struct Uses {
     pub bodies: Bodies,
 }
 
-#[derive(Drop)]
+#[derive(Clone, Copy)]
 pub enum Known {
     Op(Uses),
     Unknown,
 }
 
 // What is wrong with an instruction.
-#[derive(Drop)]
+#[derive(Clone, Copy)]
 pub enum Fault {
     Nothing,
     Op,

@@ -5,7 +5,7 @@ ghost use Rattle.std.proofs.lemmas.List.Edits.{sets};
 ghost use Rattle.hexadecimal.specs.Hex.{digit_value, digit_of, hex, number_at, written};
 
 // What stands at a place of a text.
-#[derive(Drop)]
+#[derive(Clone, Copy)]
 pub enum Number {
     Is(u64),
     Malformed,

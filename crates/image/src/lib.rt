@@ -4,7 +4,7 @@ ghost use Rattle.std.specs.Prelude.{◌≡◌};
 ghost use Rattle.image.specs.Judge.{said};
 
 // The type of design images, which owns their limits.
-#[derive(Drop)]
+#[derive(Clone, Copy)]
 pub struct Image;
 
 impl Image {
@@ -30,7 +30,7 @@ impl Image {
 }
 
 // What the judge, the reader and the writer answer, with the line of the first fault or the count that was done.
-#[derive(Drop)]
+#[derive(Clone, Copy)]
 pub enum Verdict {
     Done(usize),
     Line(usize),

@@ -25,7 +25,7 @@ pub const LONGEST_JOB: usize = 9
     + 1;
 
 // What a line of numbers holds: so many, or it is malformed.
-#[derive(Drop)]
+#[derive(Clone, Copy)]
 enum Listed {
     Count(usize),
     Broken,

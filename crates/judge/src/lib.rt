@@ -70,7 +70,7 @@ fn kind_of(c: Counts, k: usize) -> Kind
 }
 
 // What looking at a body's instructions found.
-#[derive(Drop)]
+#[derive(Clone, Copy)]
 enum Checked {
     Fine,
     Wrong(Verdict),

@@ -5,7 +5,7 @@ ghost use Rattle.marks.specs.Marks.{idle, may_run, any_runs, first_asked, found_
 
 // Sets of threads: those that wait, for the delta phase or for anything, are suspended, are to be resumed, or have ended, as has each
 // thread that there is not; of updates: the requested ones; and of events: those that pend for the delta phase.
-#[derive(Drop)]
+#[derive(Clone, Copy)]
 pub struct Marks {
     pub waiting: u32,
     pub delta: u32,
@@ -17,7 +17,7 @@ pub struct Marks {
 }
 
 // A place or nothing.
-#[derive(Drop)]
+#[derive(Clone, Copy)]
 pub enum Found {
     At(usize),
     Nothing,

@@ -98,7 +98,7 @@ fn effect_of(i: Frame, cells: &[u32]) -> Eff
 }
 
 // How a run of plain instructions ends: at the body's end, at an instruction that is not plain, or with a number.
-#[derive(Drop)]
+#[derive(Clone, Copy)]
 pub enum End {
     Ended,
     Left,
@@ -106,7 +106,7 @@ pub enum End {
 }
 
 // How it ends, where, and what is left of the budget.
-#[derive(Drop)]
+#[derive(Clone, Copy)]
 pub struct Ran {
     pub end: End,
     pub place: usize,

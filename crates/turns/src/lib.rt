@@ -7,7 +7,7 @@ ghost use Rattle.turns.specs.Code.{goes_to, marks_to};
 use marks::Marks;
 
 // Where the machine stands: body b runs, a phase, the turn to evaluation or time, or the run is over with number, body and place.
-#[derive(Drop)]
+#[derive(Clone, Copy)]
 pub enum Control {
     Runs(usize),
     UpdatePhase,
@@ -20,7 +20,7 @@ pub enum Control {
 
 // All of the machine and the kernel that is a single number. The limit is 2^32 where there is none; the stage is 0 before the
 // phase, 1 in it, 2 after it as quiet, 3 by its limit; left is what is left of the budget.
-#[derive(Drop)]
+#[derive(Clone, Copy)]
 pub struct Now {
     pub control: Control,
     pub time: u32,
@@ -33,7 +33,7 @@ pub struct Now {
 }
 
 // What the next choice comes to while a thread is runnable: the thread that is dispatched, or the number that the run stops with.
-#[derive(Drop)]
+#[derive(Clone, Copy)]
 pub enum Choice {
     Thread(u8),
     Refused(u8),
@@ -41,7 +41,7 @@ pub enum Choice {
 
 // What an instruction that is not plain came to: it stops the run, goes on, makes its thread wait, took an input, or begins the phase with
 // a limit.
-#[derive(Drop)]
+#[derive(Clone, Copy)]
 pub enum Obeyed {
     Stops(u8),
     Goes,
@@ -51,7 +51,7 @@ pub enum Obeyed {
 }
 
 // And the marks after it.
-#[derive(Drop)]
+#[derive(Clone, Copy)]
 pub struct Done {
     pub came: Obeyed,
     pub marks: Marks,

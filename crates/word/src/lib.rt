@@ -3,7 +3,7 @@
 #![tactic(auto)]
 
 // What an operation that can stop the run answers: a value for the cell, or which of the two stops.
-#[derive(Drop)]
+#[derive(Clone, Copy)]
 pub enum Outcome {
     Value(u32),
     ZeroDivisor,

@@ -94,59 +94,59 @@ from-50 = in_span (Is test) 0x50 2 (refl, (refl, tt))
 
 pub returns-in-1 : goal.returns-in-1
 unfolding uses_of
-returns-in-1 c = c.used.ensures ∙ sym (ap uses_of c.in_default-1.keys1)
+returns-in-1 c = c.used.ensures ∙ sym (ap uses_of c.in-1.is)
 
 pub returns-in-2 : goal.returns-in-2
 unfolding uses_of
-returns-in-2 c = c.used-in-2.ensures ∙ ⊎_elim (λ e. sym (ap uses_of e)) (⊎_elim (λ e. sym (ap uses_of e)) (λ e. sym (ap uses_of e))) c.in_default-1.keys2
+returns-in-2 c = c.used-in-2.ensures ∙ ⊎_elim (λ e. sym (ap uses_of e)) (⊎_elim (λ e. sym (ap uses_of e)) (λ e. sym (ap uses_of e))) c.in-2.is
 
 pub returns-in-3 : goal.returns-in-3
 unfolding uses_of
-returns-in-3 c = c.used-in-3.ensures ∙ sym (ap uses_of c.in_default-1.keys3)
+returns-in-3 c = c.used-in-3.ensures ∙ sym (ap uses_of c.in-3.is)
 
 pub returns-in-64 : goal.returns-in-64
 unfolding uses_of
-returns-in-64 c = c.used-in-64.ensures ∙ sym (ap uses_of c.in_default-1.keys4)
+returns-in-64 c = c.used-in-64.ensures ∙ sym (ap uses_of c.in-64.is)
 
 pub returns-in-65 : goal.returns-in-65
 unfolding uses_of
-returns-in-65 c = c.used-in-65.ensures ∙ sym (ap uses_of c.in_default-1.keys5)
+returns-in-65 c = c.used-in-65.ensures ∙ sym (ap uses_of c.in-65.is)
 
 pub returns-in-96 : goal.returns-in-96
 unfolding uses_of
-returns-in-96 c = c.used-in-96.ensures ∙ sym (ap uses_of c.in_default-1.keys6)
+returns-in-96 c = c.used-in-96.ensures ∙ sym (ap uses_of c.in-96.is)
 
 pub returns-in-97 : goal.returns-in-97
 unfolding uses_of
-returns-in-97 c = c.used-in-97.ensures ∙ sym (ap uses_of c.in_default-1.keys7)
+returns-in-97 c = c.used-in-97.ensures ∙ sym (ap uses_of c.in-97.is)
 
 pub returns-in-98 : goal.returns-in-98
 unfolding uses_of
-returns-in-98 c = c.used-in-98.ensures ∙ sym (ap uses_of c.in_default-1.keys8)
+returns-in-98 c = c.used-in-98.ensures ∙ sym (ap uses_of c.in-98.is)
 
 pub returns-in-99 : goal.returns-in-99
 unfolding uses_of
-returns-in-99 c = c.used-in-99.ensures ∙ sym (ap uses_of c.in_default-1.keys9)
+returns-in-99 c = c.used-in-99.ensures ∙ sym (ap uses_of c.in-99.is)
 
 pub returns-in-100 : goal.returns-in-100
 unfolding uses_of
-returns-in-100 c = c.used-in-100.ensures ∙ sym (ap uses_of c.in_default-1.keys10)
+returns-in-100 c = c.used-in-100.ensures ∙ sym (ap uses_of c.in-100.is)
 
 pub returns-in-101 : goal.returns-in-101
 unfolding uses_of
-returns-in-101 c = c.used-in-101.ensures ∙ sym (ap uses_of c.in_default-1.keys11)
+returns-in-101 c = c.used-in-101.ensures ∙ sym (ap uses_of c.in-101.is)
 
 pub returns-in-102 : goal.returns-in-102
 unfolding uses_of
-returns-in-102 c = c.used-in-102.ensures ∙ sym (ap uses_of c.in_default-1.keys12)
+returns-in-102 c = c.used-in-102.ensures ∙ sym (ap uses_of c.in-102.is)
 
 pub returns-in-103 : goal.returns-in-103
 unfolding uses_of
-returns-in-103 c = c.used-in-103.ensures ∙ sym (ap uses_of c.in_default-1.keys13)
+returns-in-103 c = c.used-in-103.ensures ∙ sym (ap uses_of c.in-103.is)
 
 pub returns-in-104 : goal.returns-in-104
 unfolding uses_of
-returns-in-104 c = c.used-in-104.ensures ∙ sym (ap uses_of c.in_default-1.keys14)
+returns-in-104 c = c.used-in-104.ensures ∙ sym (ap uses_of c.in-104.is)
 
 pub returns-in-16-to-20 : goal.returns-in-16-to-20
 returns-in-16-to-20 c = c.used-in-16-to-20.ensures ∙ from-10 _ (omega arith) (below-15 _ (search rules))
@@ -167,22 +167,22 @@ pub returns-in-80-to-81 : goal.returns-in-80-to-81
 returns-in-80-to-81 c = c.used-in-80-to-81.ensures ∙ from-50 _ (omega arith) (omega arith)
 
 pub returns-in_default : goal.returns-in_default
-returns-in_default c = otherwise _ (omega arith) c.in_default-1.rest (omega arith)
+returns-in_default c = otherwise _ (omega arith) c.in_default.in_default-own.rest (omega arith)
 
 pub returns-in_default-2 : goal.returns-in_default-2
-returns-in_default-2 c = otherwise _ (omega arith) c.in_default-1.rest (omega arith)
+returns-in_default-2 c = otherwise _ (omega arith) c.in_default.in_default-own.rest (omega arith)
 
 pub returns-in_default-3 : goal.returns-in_default-3
-returns-in_default-3 c = otherwise _ (omega arith) c.in_default-1.rest (omega arith)
+returns-in_default-3 c = otherwise _ (omega arith) c.in_default.in_default-own.rest (omega arith)
 
 pub returns-in_default-4 : goal.returns-in_default-4
-returns-in_default-4 c = otherwise _ (omega arith) c.in_default-1.rest (omega arith)
+returns-in_default-4 c = otherwise _ (omega arith) c.in_default.in_default-own.rest (omega arith)
 
 pub returns-in_default-5 : goal.returns-in_default-5
-returns-in_default-5 c = otherwise _ (omega arith) c.in_default-1.rest (omega arith)
+returns-in_default-5 c = otherwise _ (omega arith) c.in_default.in_default-own.rest (omega arith)
 
 pub returns-in_default-6 : goal.returns-in_default-6
-returns-in_default-6 c = otherwise _ (omega arith) c.in_default-1.rest (omega arith)
+returns-in_default-6 c = otherwise _ (omega arith) c.in_default.in_default-own.rest (omega arith)
 
 pub returns-in_default-7 : goal.returns-in_default-7
-returns-in_default-7 c = otherwise _ (omega arith) c.in_default-1.rest (omega arith)
+returns-in_default-7 c = otherwise _ (omega arith) c.in_default.in_default-own.rest (omega arith)

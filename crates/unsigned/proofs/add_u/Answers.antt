@@ -4,4 +4,4 @@ use Rattle.unsigned.proofs.add_u.Goals as goal
 
 pub returns : goal.returns
 unfolding add_u
-returns c = c.wrapping_add_u32.ensures
+returns c = c.wrapping_add_u32.ensures.value
