@@ -1,6 +1,6 @@
 -- Reading what was written gives the table, and writing what was read gives the bytes. Assumes nothing.
 use Prim.Native.Nat.{ℕ, zero, suc, ◌+◌, ◌*◌, ◌^◌, ◌≤◌, ◌<◌}
-use mathlib.Core.Path.{◌≡◌, refl, sym, ap, ◌∙◌}
+use mathlib.Core.Path.{◌≡◌, refl, sym, ap, subst, ◌∙◌}
 use mathlib.Core.Bool.{Bool, true, false}
 use mathlib.Core.List.{List, [], ◌∷◌, ◌++◌, append_assoc, append-nil}
 use native.Mathlib.Omega.{arith}
@@ -63,7 +63,10 @@ frames_read (f ∷ fs) p i zero w h l = absurd (omega arith)
 frames_read (f ∷ fs) p i (suc n) w h l =
     let a : p ++ (line f ++ text fs) ≡ (p ++ line f) ++ text fs = sym (append_assoc p (line f) (text fs)) in
     let k : length (p ++ line f) ≡ 17 * suc i = length-append p (line f) ∙ omega (arith, length_line f) in
-    rw (← h, line_read p (text fs) f w.0, a) (ap (λ (l : List ℕ). f ∷ l) (frames_read fs (p ++ line f) (suc i) n w.1 k (omega arith)))
+    rw
+    (← h, line_read p (text fs) f w.0)
+    (subst (λ (bs : List ℕ). before (Is f) (frames_from bs (suc i) n) ≡ f ∷ fs) (sym a)
+    (ap (λ (l : List ℕ). f ∷ l) (frames_read fs (p ++ line f) (suc i) n w.1 k (omega arith))))
 
 -- the text of the frames that were read
 text_by : (bs : List ℕ) (i : ℕ) (l : Number) (r : List ℕ) → line_at bs (17 * i) ≡ l → text r ≡ take (17 * length r) (drop (17 * suc i) bs) → text (before l r) ≡ take (17 * length (before l r)) (drop (17 * i) bs)
