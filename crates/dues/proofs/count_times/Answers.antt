@@ -1,0 +1,6 @@
+use borrow.Author.Rules.{rules}
+use Rattle.dues.proofs.Loops.{times_both}
+use Rattle.dues.proofs.count_times.Goals as goal
+
+pub returns : goal.returns
+returns c = search times_both

@@ -1,0 +1,6 @@
+use borrow.Author.Rules.{rules}
+use Rattle.marking.proofs.Arms.{change_laws}
+use Rattle.marking.proofs.wait_delta.Goals as goal
+
+pub returns : goal.returns
+returns c = search change_laws

@@ -1,0 +1,6 @@
+use borrow.Author.Rules.{rules}
+use Rattle.marks.proofs.Arms.{straight_laws}
+use Rattle.marks.proofs.idle.Goals as goal
+
+pub returns : goal.returns
+returns c = search straight_laws

@@ -1,0 +1,9 @@
+use Rattle.reader.proofs.Whole.{fill_laws}
+use borrow.Author.Rules.{rules}
+use Rattle.reader.proofs.fill.Goals as goal
+
+pub returns-then-number-gt0 : goal.returns-then-number-gt0
+returns-then-number-gt0 c = search fill_laws
+
+pub returns : goal.returns
+returns c = search fill_laws

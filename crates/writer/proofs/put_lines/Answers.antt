@@ -1,0 +1,17 @@
+use Prim.Native.Nat.{◌≤◌, ◌-◌, ◌*◌}
+use mathlib.Core.Path.{◌≡◌, refl}
+use borrow.Author.Rules.{rules}
+use lib.ListN.{length, drop}
+use lib.Seq.{sets}
+use Rattle.lines.specs.Text.{text}
+use Rattle.writer.proofs.Whole.{text_turn, text_end}
+use Rattle.writer.proofs.put_lines.Goals as goal
+
+pub loop-i-init : goal.loop-i-init
+loop-i-init c = (search rules, refl, refl)
+
+pub loop-i-preserved : goal.loop-i-preserved
+loop-i-preserved c = (search rules, search rules, search (text_turn, rules))
+
+pub returns : goal.returns
+returns c = search (text_end, rules)

@@ -1,0 +1,15 @@
+use Prim.Native.Nat.{◌≤◌, ◌-◌, ◌*◌}
+use mathlib.Core.Path.{◌≡◌, refl}
+use borrow.Author.Rules.{rules}
+use lib.ListN.{length, drop}
+use lib.Seq.{sets}
+use Rattle.lines.specs.Text.{text}
+use Rattle.writer.proofs.Whole.{text_turn, text_end}
+use Rattle.writer.proofs.put_lines.Given as goal
+
+abbrev pub invariant-loop-i : goal.invariant-loop-i
+invariant-loop-i l =
+    (l.i ≤ length l.table) × (length l.bytes ≡ length l.initial.bytes) × (sets l.bytes (17 * l.i) (text (drop l.i l.table)) ≡ sets l.initial.bytes 0 (text l.table))
+
+abbrev pub decreases-loop-i : goal.decreases-loop-i
+decreases-loop-i l = length l.table - l.i
