@@ -1,0 +1,12 @@
+use Rattle.evaluation.proofs.Arms.{choice_laws}
+use borrow.Author.Rules.{rules}
+use Rattle.evaluation.proofs.next_choice.Goals as goal
+
+pub returns-then-choices-at : goal.returns-then-choices-at
+returns-then-choices-at c = search (choice_laws, rules)
+
+pub returns-then-runnable : goal.returns-then-runnable
+returns-then-runnable c = search (choice_laws, rules)
+
+pub returns : goal.returns
+returns c = search (choice_laws, rules)
