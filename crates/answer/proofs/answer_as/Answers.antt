@@ -1,0 +1,5 @@
+use borrow.Author.Rules.{rules}
+use Rattle.answer.proofs.answer_as.Goals as goal
+
+pub returns : goal.returns
+returns c = rw (c.not_ended.ensures, c.spent.ensures)

@@ -1,0 +1,10 @@
+use Rattle.fishdavit.proofs.Small.{small_laws}
+use mathlib.Core.Path.{◌∙◌}
+use borrow.Author.Rules.{rules}
+use Rattle.fishdavit.proofs.fishdavit_judge.Goals as goal
+
+pub told-requires : goal.told-requires
+told-requires c = search small_laws
+
+pub returns : goal.returns
+returns c = c.told.ensures ∙ c.judge.ensures

@@ -1,0 +1,15 @@
+use Rattle.program.proofs.Lines.{numbers_laws}
+use borrow.Author.Rules.{rules}
+use Rattle.job.proofs.choices_of.Goals as goal
+
+pub returns-then-text-line : goal.returns-then-text-line
+returns-then-text-line c = (search (numbers_laws, rules), search rules)
+
+pub returns-then-line-ne0 : goal.returns-then-line-ne0
+returns-then-line-ne0 c = (search (numbers_laws, rules), search rules)
+
+pub returns-then-line-gt-CHOICES : goal.returns-then-line-gt-CHOICES
+returns-then-line-gt-CHOICES c = (search (numbers_laws, rules), search rules)
+
+pub returns : goal.returns
+returns c = (search (numbers_laws, rules), search rules)

@@ -1,0 +1,5 @@
+use borrow.Author.Rules.{rules}
+use Rattle.run.proofs.first_now.Goals as goal
+
+pub returns : goal.returns
+returns c = rw c.first_marks-marks.ensures
