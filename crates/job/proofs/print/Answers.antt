@@ -8,7 +8,7 @@ pub returns-in_default : goal.returns-in_default
 returns-in_default c = search (stage_laws, rules)
 
 pub overflow_add-rest : goal.overflow_add-rest
-overflow_add-rest c = omega (arith, after_budget _ _ c.line_length-line.ensures _ _ c.budget_of.ensures c.budget-1.given.1)
+overflow_add-rest c = omega (arith, after_budget _ _ c.line_length-line.ensures _ _ c.budget_of.ensures c.in-Is.is)
 
 pub slice_bounds-from_choices-count : goal.slice_bounds-from_choices-count
 slice_bounds-from_choices-count c = search (after_laws, rules)
