@@ -1,5 +1,6 @@
 // What a run answers, made of its last state.
 #![tactic(auto)]
+
 ghost use Rattle.std.specs.Prelude.{◌≡◌, ◌-◌};
 ghost use Rattle.turns.specs.Code.{answer_as, answered};
 ghost use Rattle.answer.specs.Answer.{said};

@@ -1,5 +1,6 @@
 // Cells as bits: and, or, not; whether two are the same, and whether one is 0.
 #![tactic(auto)]
+
 ghost use Rattle.std.specs.Prelude.{◌≡◌};
 ghost use Rattle.word.specs.Word.{and_b, or_b, not_b, equal, differ, is_zero};
 

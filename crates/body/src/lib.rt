@@ -1,5 +1,6 @@
 // A body's turn: its plain instructions, and what ended them.
 #![tactic(auto)]
+
 ghost use Rattle.std.specs.Prelude.{◌≡◌, ◌+◌, ◌-◌, ◌<◌, length, get_or, set};
 ghost use Rattle.frame.specs.Fields.{fields};
 ghost use Rattle.frame.specs.Ops.{meaning_of};

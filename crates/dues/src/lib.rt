@@ -1,5 +1,6 @@
 // Due times as numbers in lists: of events, what they pend for; of threads, what they wait for.
 #![tactic(auto)]
+
 ghost use Rattle.std.specs.Prelude.{◌≡◌, map, ◌+◌, ◌≤◌, min, length, set};
 ghost use Rattle.kernel.specs.Search.{lesser, least, sum};
 ghost use Rattle.kernel.specs.Pending.{time_of, is_time};

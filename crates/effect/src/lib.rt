@@ -1,5 +1,6 @@
 // What a plain instruction comes to, in the code's words, and the parts of that decision that are arithmetic and jumps.
 #![tactic(auto)]
+
 ghost use Rattle.std.specs.Prelude.{◌≡◌};
 ghost use Rattle.word.specs.Word.{narrow, add_s, sub_s, mul_s};
 ghost use Rattle.word.specs.Said.{said};

@@ -1,5 +1,6 @@
 // Evaluation: which thread is dispatched, and where the machine goes where none is runnable.
 #![tactic(auto)]
+
 ghost use Rattle.std.specs.Prelude.{◌≡◌, ◌<◌};
 ghost use Rattle.kernel.specs.Search.{nth};
 ghost use Rattle.marks.specs.Marks.{first_asked};

@@ -1,5 +1,6 @@
 // What is wrong with a frame as an instruction, by what its op uses.
 #![tactic(auto)]
+
 ghost use Rattle.std.specs.Prelude.{◌≡◌};
 ghost use Rattle.frame.specs.Ops.{held_by};
 ghost use Rattle.frame.specs.Fault.{fits, instruction_fault, fault_number};

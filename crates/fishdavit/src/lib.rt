@@ -1,5 +1,6 @@
 // The C interface: judge, read, write and run on numbers and slices. include/fishdavit.h declares it.
 #![tactic(auto)]
+
 ghost use Rattle.std.specs.Prelude.{◌≡◌};
 ghost use Rattle.image.specs.Judge.{said, judged};
 ghost use Rattle.lines.specs.Text.{outcome, reading, writing};

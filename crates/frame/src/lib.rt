@@ -1,6 +1,7 @@
 // A frame of a design image: its fields, and the types of what its op uses and of what is wrong with it as an instruction, which `ops` and
 // `fault` find.
 #![tactic(auto)]
+
 ghost use Rattle.std.specs.Prelude.{◌≡◌};
 ghost use Rattle.frame.specs.Fields.{fields};
 

@@ -1,5 +1,6 @@
 // Numbers as lower-case hexadecimal digits, the high digit first: what images, job lines and answers are written in.
 #![tactic(auto)]
+
 ghost use Rattle.std.specs.Prelude.{◌≡◌, ◌<◌, ◌+◌, ◌≤◌, length};
 ghost use Rattle.std.proofs.lemmas.List.Edits.{sets};
 ghost use Rattle.hexadecimal.specs.Hex.{digit_value, digit_of, hex, number_at, written};

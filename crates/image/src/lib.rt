@@ -1,5 +1,6 @@
 // Design images as tables of frames: their limits, and what a verdict on one says. `judge` finds a table's first fault.
 #![tactic(auto)]
+
 ghost use Rattle.std.specs.Prelude.{◌≡◌};
 ghost use Rattle.image.specs.Judge.{said};
 

@@ -1,5 +1,6 @@
 // The run program: a job on standard input, its answer on standard output.
 #![tactic(auto)]
+
 fn main() {
     let mut text = [0u8; job::LONGEST_JOB];
     let n = io::read_full(0, &mut text);

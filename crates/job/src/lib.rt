@@ -1,5 +1,6 @@
 // The program's work whole: from the bytes of a job to the bytes of its answer.
 #![tactic(auto)]
+
 ghost use Rattle.std.specs.Prelude.{◌≡◌, ◌+◌, ◌*◌, ◌≤◌, length};
 ghost use Rattle.image.specs.Limits.{most_choices, most_inputs};
 ghost use Rattle.image.specs.Judge.{judged};

@@ -1,5 +1,6 @@
 // The judge, which finds the first fault of a table of frames.
 #![tactic(auto)]
+
 ghost use Rattle.std.specs.Prelude.{◌≡◌, ◌+◌};
 ghost use Rattle.image.specs.Layout.{counts_of, kind_of};
 ghost use Rattle.image.specs.Judge.{said, header_fits, body_fits, rest, judged};

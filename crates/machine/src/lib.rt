@@ -1,5 +1,6 @@
 // The machine's turns.
 #![tactic(auto)]
+
 ghost use Rattle.std.specs.Prelude.{◌≡◌, ◌<◌, ◌^◌, length};
 ghost use Rattle.marks.specs.Marks.{first_asked};
 ghost use Rattle.shows.specs.Shows.{lists};

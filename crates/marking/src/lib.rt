@@ -1,5 +1,6 @@
 // What the kernel's instructions and the ends of bodies make of the marks.
 #![tactic(auto)]
+
 ghost use Rattle.std.specs.Prelude.{◌≡◌};
 ghost use Rattle.marks.specs.Marks.{with_waiting, with_resuming, with_ended, with_requested, with_pending, waits_till, suspended, resumed, ended_by, requested_by, finished_by};
 

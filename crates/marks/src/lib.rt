@@ -1,5 +1,6 @@
 // The marks of threads, updates and events, and what they answer: who is runnable, which update is first, who has not ended.
 #![tactic(auto)]
+
 ghost use Rattle.std.specs.Prelude.{◌≡◌};
 ghost use Rattle.marks.specs.Marks.{idle, may_run, any_runs, first_asked, found_of, not_ended, first_marks};
 

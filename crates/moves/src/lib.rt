@@ -1,5 +1,6 @@
 // What the machine does between instructions but for evaluation: the delta phase, time, a body's end.
 #![tactic(auto)]
+
 ghost use Rattle.std.specs.Prelude.{◌≡◌, []};
 ghost use Rattle.shows.specs.Shows.{lists};
 ghost use Rattle.turns.specs.Code.{delta_to, delta_in, least_of, closed, moved_to, timed_by, served_by, phase_number, ends_to};

@@ -1,5 +1,6 @@
 // An instruction that is not plain.
 #![tactic(auto)]
+
 ghost use Rattle.std.specs.Prelude.{◌≡◌, true, [], ◌+◌, get_or, set, ltb};
 ghost use Rattle.kernel.specs.Search.{nth};
 ghost use Rattle.frame.specs.Ops.{meaning_of};

@@ -1,5 +1,6 @@
 // What each op uses.
 #![tactic(auto)]
+
 ghost use Rattle.std.specs.Prelude.{◌≡◌};
 ghost use Rattle.frame.specs.Ops.{uses_of};
 

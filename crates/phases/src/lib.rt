@@ -1,5 +1,6 @@
 // What the delta phase and a time make of the marks, the due times and the threads that wait for each event.
 #![tactic(auto)]
+
 ghost use Rattle.std.specs.Prelude.{◌≡◌, map};
 ghost use Rattle.dues.specs.Dues.{over_code, due_in};
 ghost use Rattle.phases.specs.Phases.{freed_by, cleared_by, served_delta, served_time};

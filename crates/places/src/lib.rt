@@ -1,5 +1,6 @@
 // A place for each body in a lent slice: where it stands, or the line of its first instruction.
 #![tactic(auto)]
+
 ghost use Rattle.std.specs.Prelude.{◌≡◌, ◌+◌, ◌-◌, get_or, set};
 
 // Body b stands at place p.

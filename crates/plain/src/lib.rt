@@ -1,5 +1,6 @@
 // The hot path: the plain instructions of one body, on a lent table and lent cells.
 #![tactic(auto)]
+
 ghost use Rattle.std.specs.Prelude.{◌≡◌, ◌+◌, ◌-◌, ◌≤◌, ◌<◌, length, get_or, set};
 ghost use Rattle.plain.specs.Plain.{Comes, load_of, store_of, hold_of, plain, run_plain};
 

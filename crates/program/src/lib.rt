@@ -1,5 +1,6 @@
 // What the program prints for a job, and of its code the end of a line and which numbers are refusals.
 #![tactic(auto)]
+
 ghost use Rattle.std.specs.Prelude.{◌≡◌};
 ghost use Rattle.laws.specs.Choice.{between};
 ghost use Rattle.program.specs.JobLines.{line_length};

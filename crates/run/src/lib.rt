@@ -1,5 +1,6 @@
 // One run of a design under given choices, inputs and budget.
 #![tactic(auto)]
+
 ghost use Rattle.std.specs.Prelude.{◌≡◌, ◌+◌, ◌-◌, ◌*◌, ◌≤◌, ◌<◌, length, set, replicate};
 ghost use Rattle.shows.specs.Shows.{lists};
 ghost use Rattle.turns.specs.Stands.{Firsts};

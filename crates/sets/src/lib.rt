@@ -1,5 +1,6 @@
 // A set of numbers below 32, in one u32: i is in it where bit i is 1.
 #![tactic(auto)]
+
 ghost use Rattle.std.specs.Prelude.{◌≡◌};
 ghost use Rattle.sets.specs.Sets.{has, single, join, minus, with, without, below, least_of};
 

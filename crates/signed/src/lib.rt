@@ -1,6 +1,7 @@
 // Cells as signed numbers, in two's complement: what a cell stands for and the way back, quotients and remainders with their stops,
 // comparisons.
 #![tactic(auto)]
+
 ghost use Rattle.std.specs.Prelude.{◌≡◌};
 ghost use Rattle.std.specs.Int.Signed.{quot_z};
 ghost use Rattle.word.specs.Said.{said};

@@ -1,6 +1,7 @@
 // The machine's state as numbers: the types of the run's code, and the machine at another place. specs/ says what a turn makes of the
 // state, and proofs/ that it is some steps of the machine.
 #![tactic(auto)]
+
 ghost use Rattle.std.specs.Prelude.{◌≡◌};
 ghost use Rattle.turns.specs.Code.{goes_to, marks_to};
 

@@ -1,5 +1,6 @@
 // Cells as unsigned numbers: sums, differences and products modulo 2^32, quotients, remainders, comparisons.
 #![tactic(auto)]
+
 ghost use Rattle.std.specs.Prelude.{◌≡◌};
 ghost use Rattle.word.specs.Said.{said};
 ghost use Rattle.word.specs.Word.{add_u, sub_u, mul_u, quot_u, rem_u, lt_u, le_u};

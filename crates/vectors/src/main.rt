@@ -1,6 +1,7 @@
 // Runs cases on the judge, the reader and the writer of design images (crates `cases` and `text_cases`), and on the whole program. A job is printed with the
 // whole answer of the program. Tables and jobs come from the file stdin; the file stdout says what must come out.
 #![tactic(auto)]
+
 mod jobs;
 
 fn main() {

@@ -1,5 +1,6 @@
 // What a wait, a notification and a trigger make of the marks, the due times and the threads that wait for each event.
 #![tactic(auto)]
+
 ghost use Rattle.std.specs.Prelude.{◌≡◌, get_or, set};
 ghost use Rattle.sets.specs.Sets.{has, with, minus};
 ghost use Rattle.marks.specs.Marks.{waits_on, waits_till, asked_for};

@@ -1,4 +1,3 @@
-use borrow.Author.Rules.{rules}
 use mathlib.Core.Path.{refl}
 use Rattle.word.specs.Word.{differ}
 use Rattle.bits.proofs.differ.Goals as goal

@@ -1,4 +1,3 @@
-use borrow.Author.Rules.{rules}
 use mathlib.Core.Path.{refl}
 use Rattle.word.specs.Word.{equal}
 use Rattle.bits.proofs.equal.Goals as goal

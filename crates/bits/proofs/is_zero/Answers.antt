@@ -1,4 +1,3 @@
-use borrow.Author.Rules.{rules}
 use mathlib.Core.Path.{refl}
 use Rattle.word.specs.Word.{is_zero}
 use Rattle.bits.proofs.is_zero.Goals as goal

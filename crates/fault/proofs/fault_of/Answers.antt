@@ -1,5 +1,4 @@
 use Rattle.frame.specs.Laws.{fault_laws}
-use borrow.Author.Rules.{rules}
 use Rattle.fault.proofs.fault_of.Goals as goal
 
 pub returns-in_default : goal.returns-in_default

@@ -1,5 +1,4 @@
 use Rattle.frame.specs.Fault.{fits}
-use borrow.Author.Rules.{rules}
 use Rattle.fault.proofs.in_range.Goals as goal
 
 pub returns-in-Unused : goal.returns-in-Unused

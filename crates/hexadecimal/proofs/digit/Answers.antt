@@ -1,5 +1,4 @@
 use Rattle.hexadecimal.specs.Laws.{digit_laws}
-use borrow.Author.Rules.{rules}
 use Rattle.hexadecimal.proofs.digit.Goals as goal
 
 pub returns-then-b-lt48 : goal.returns-then-b-lt48

@@ -1,5 +1,4 @@
 use Rattle.hexadecimal.specs.Laws.{number_laws}
-use borrow.Author.Rules.{rules}
 use Rattle.hexadecimal.proofs.number_at.Goals as goal
 
 pub returns-then-n-gt16 : goal.returns-then-n-gt16

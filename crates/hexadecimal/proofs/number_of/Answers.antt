@@ -1,6 +1,4 @@
 use Rattle.hexadecimal.specs.Laws.{number_laws, read_none, read_turn, read_mul, read_add}
-use Rattle.hexadecimal.specs.Steps.{Read}
-use Prim.Native.Nat.{◌≤◌, ◌-◌}
 use borrow.Author.Rules.{rules}
 use Rattle.hexadecimal.proofs.number_of.Goals as goal
 

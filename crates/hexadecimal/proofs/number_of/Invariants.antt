@@ -1,7 +1,5 @@
-use Rattle.hexadecimal.specs.Laws.{number_laws, read_none, read_turn, read_mul, read_add}
 use Rattle.hexadecimal.specs.Steps.{Read}
 use Prim.Native.Nat.{◌≤◌, ◌-◌}
-use borrow.Author.Rules.{rules}
 use Rattle.hexadecimal.proofs.number_of.Given as goal
 
 abbrev pub invariant-loop-j : goal.invariant-loop-j

@@ -1,5 +1,4 @@
 use Rattle.hexadecimal.specs.Laws.{spell_laws}
-use borrow.Author.Rules.{rules}
 use Rattle.hexadecimal.proofs.spell.Goals as goal
 
 pub returns-then-v-lt10 : goal.returns-then-v-lt10

@@ -1,9 +1,6 @@
 use Rattle.hexadecimal.specs.Laws.{hex_turn, hex_end}
-use Rattle.hexadecimal.specs.Hex.{hex}
-use Prim.Native.Nat.{◌≤◌}
-use mathlib.Core.Path.{◌≡◌, refl}
-use lib.ListN.{length, length-set}
-use lib.Seq.{sets}
+use mathlib.Core.Path.{refl}
+use lib.ListN.{length-set}
 use borrow.Author.Rules.{rules}
 use native.Mathlib.Omega.{arith}
 use Rattle.hexadecimal.proofs.spell_at.Goals as goal

@@ -1,11 +1,8 @@
-use Rattle.hexadecimal.specs.Laws.{hex_turn, hex_end}
 use Rattle.hexadecimal.specs.Hex.{hex}
 use Prim.Native.Nat.{◌≤◌}
-use mathlib.Core.Path.{◌≡◌, refl}
-use lib.ListN.{length, length-set}
+use mathlib.Core.Path.{◌≡◌}
+use lib.ListN.{length}
 use lib.Seq.{sets}
-use borrow.Author.Rules.{rules}
-use native.Mathlib.Omega.{arith}
 use Rattle.hexadecimal.proofs.spell_at.Given as goal
 
 abbrev pub invariant-loop-j : goal.invariant-loop-j

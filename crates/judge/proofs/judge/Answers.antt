@@ -1,5 +1,4 @@
 use Rattle.judge.proofs.Loops.{judge_laws}
-use borrow.Author.Rules.{rules}
 use Rattle.judge.proofs.judge.Goals as goal
 
 pub returns-then-table-eq0 : goal.returns-then-table-eq0

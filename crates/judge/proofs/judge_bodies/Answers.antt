@@ -1,10 +1,5 @@
-use Prim.Native.Nat.{◌≤◌, ◌+◌, ◌-◌}
-use mathlib.Core.Path.{◌≡◌, refl}
-use lib.ListN.{length}
+use mathlib.Core.Path.{refl}
 use borrow.Author.Rules.{rules}
-use Rattle.image.specs.Limits.{most_instructions}
-use Rattle.image.specs.Layout.{lengths}
-use Rattle.image.specs.Judge.{rest}
 use Rattle.judge.proofs.Loops.{heads_laws, heads_done, heads_rest}
 use Rattle.judge.proofs.judge_bodies.Goals as goal
 

@@ -1,10 +1,7 @@
 use Prim.Native.Nat.{◌≤◌, ◌-◌}
 use mathlib.Core.Path.{◌≡◌}
-use native.Mathlib.Omega.{arith}
 use lib.ListN.{length}
-use borrow.Author.Rules.{rules}
 use Rattle.image.specs.Judge.{rest}
-use Rattle.judge.proofs.Loops.{body_laws, body_done}
 use Rattle.judge.proofs.judge_body.Given as goal
 
 abbrev pub invariant-loop-line : goal.invariant-loop-line

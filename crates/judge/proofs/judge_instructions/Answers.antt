@@ -1,9 +1,5 @@
-use Prim.Native.Nat.{◌≤◌, ◌+◌, ◌-◌}
-use mathlib.Core.Path.{◌≡◌, refl}
-use lib.ListN.{length}
+use mathlib.Core.Path.{refl}
 use borrow.Author.Rules.{rules}
-use Rattle.image.specs.Layout.{first}
-use Rattle.image.specs.Judge.{rest}
 use Rattle.judge.proofs.Loops.{table_laws}
 use Rattle.judge.proofs.judge_instructions.Goals as goal
 

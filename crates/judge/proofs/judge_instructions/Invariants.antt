@@ -1,10 +1,8 @@
 use Prim.Native.Nat.{◌≤◌, ◌+◌, ◌-◌}
-use mathlib.Core.Path.{◌≡◌, refl}
+use mathlib.Core.Path.{◌≡◌}
 use lib.ListN.{length}
-use borrow.Author.Rules.{rules}
 use Rattle.image.specs.Layout.{first}
 use Rattle.image.specs.Judge.{rest}
-use Rattle.judge.proofs.Loops.{table_laws}
 use Rattle.judge.proofs.judge_instructions.Given as goal
 
 abbrev pub invariant-loop-k : goal.invariant-loop-k

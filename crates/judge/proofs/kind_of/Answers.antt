@@ -1,5 +1,4 @@
 use Rattle.judge.proofs.Frames.{kind_laws}
-use borrow.Author.Rules.{rules}
 use Rattle.judge.proofs.kind_of.Goals as goal
 
 pub returns-then-k-eq0 : goal.returns-then-k-eq0

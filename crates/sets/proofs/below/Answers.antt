@@ -1,4 +1,3 @@
-use borrow.Author.Rules.{rules}
 use native.Mathlib.Omega.{arith}
 use Rattle.sets.proofs.Shifts.{shifted_pos, below_in, below_past}
 use Rattle.sets.proofs.below.Goals as goal

@@ -1,4 +1,3 @@
-use borrow.Author.Rules.{rules}
 use native.Mathlib.Omega.{arith}
 use Rattle.sets.proofs.Shifts.{single_in, single_past}
 use Rattle.sets.proofs.single.Goals as goal

@@ -1,4 +1,3 @@
-use borrow.Author.Rules.{rules}
 use mathlib.Core.Path.{◌∙◌, ap}
 use Rattle.sets.specs.Sets.{join, with}
 use Rattle.sets.proofs.with.Goals as goal

@@ -1,4 +1,3 @@
-use borrow.Author.Rules.{rules}
 use mathlib.Core.Path.{◌∙◌, ap}
 use Rattle.sets.specs.Sets.{minus, without}
 use Rattle.sets.proofs.without.Goals as goal

@@ -1,4 +1,3 @@
-use borrow.Author.Rules.{rules}
 use borrow.Author.Tests.{eq-eqb}
 use lib.Signed.{quot_z}
 use Rattle.word.specs.Said.{said}

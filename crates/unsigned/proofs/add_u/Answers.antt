@@ -1,4 +1,3 @@
-use Rattle.std.proofs.Common.{rules}
 use Rattle.word.specs.Word.{add_u}
 use Rattle.unsigned.proofs.add_u.Goals as goal
 

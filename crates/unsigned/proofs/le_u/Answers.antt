@@ -1,4 +1,4 @@
-use Rattle.std.proofs.Common.{refl, rules}
+use Rattle.std.proofs.Common.{refl}
 use Rattle.word.specs.Word.{le_u}
 use Rattle.unsigned.proofs.le_u.Goals as goal
 

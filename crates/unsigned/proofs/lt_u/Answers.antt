@@ -1,4 +1,4 @@
-use Rattle.std.proofs.Common.{refl, rules}
+use Rattle.std.proofs.Common.{refl}
 use Rattle.word.specs.Word.{lt_u}
 use Rattle.unsigned.proofs.lt_u.Goals as goal
 

@@ -1,4 +1,4 @@
-use Rattle.std.proofs.Common.{rules, eq-eqb, ne_eqb}
+use Rattle.std.proofs.Common.{eq-eqb, ne_eqb}
 use Rattle.word.specs.Said.{said}
 use Rattle.word.specs.Word.{rem_u}
 use Rattle.unsigned.proofs.rem_u.Goals as goal

@@ -1,4 +1,4 @@
-use Rattle.std.proofs.Common.{arith, rules}
+use Rattle.std.proofs.Common.{arith}
 use Rattle.word.proofs.Machine.{difference_is}
 use Rattle.unsigned.proofs.sub_u.Goals as goal
 

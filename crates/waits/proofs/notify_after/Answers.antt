@@ -14,8 +14,9 @@ returns-then-q-eq0-clause-value c = search moment_laws
 pub returns-then-q-eq0-clause-pends_after : goal.returns-then-q-eq0-clause-pends_after
 returns-then-q-eq0-clause-pends_after c =
     elim c.if-e-pends.branch [
-      then-e-pends w ↦ asked_here c.args.pends.now _ _ _ _ _ _ w.pends-is w.asked_of-c.ensures w.has.ensures
-    | else-e-pends w ↦ w.pends-is ∙ set_past c.args.pends.now _ _ w.if-e-pends.false ]
+      | then-e-pends w ↦ asked_here c.args.pends.now _ _ _ _ _ _ w.pends-is w.asked_of-c.ensures w.has.ensures
+      | else-e-pends w ↦ w.pends-is ∙ set_past c.args.pends.now _ _ w.if-e-pends.false
+    ]
 
 pub returns-clause-value : goal.returns-clause-value
 returns-clause-value c = search moment_laws
@@ -23,5 +24,6 @@ returns-clause-value c = search moment_laws
 pub returns-clause-pends_after : goal.returns-clause-pends_after
 returns-clause-pends_after c =
     elim c.if-e-pends.branch [
-      then-e-pends w ↦ asked_here c.args.pends.now _ _ _ _ _ _ w.pends-is w.asked_of-c.ensures w.has.ensures
-    | else-e-pends w ↦ w.pends-is ∙ set_past c.args.pends.now _ _ w.if-e-pends.false ]
+      | then-e-pends w ↦ asked_here c.args.pends.now _ _ _ _ _ _ w.pends-is w.asked_of-c.ensures w.has.ensures
+      | else-e-pends w ↦ w.pends-is ∙ set_past c.args.pends.now _ _ w.if-e-pends.false
+    ]
