@@ -7,8 +7,8 @@ mod jobs;
 use std::io;
 
 fn main(rt: HostRuntime) -> io::Result<()> {
-    cases::ops::every_op_by_body(&rt)?;
-    cases::ops::every_field(&rt)?;
+    cases::instructions::every_op_by_body(&rt)?;
+    cases::instructions::every_field(&rt)?;
     text_cases::texts::lines(&rt)?;
     text_cases::texts::starts(&rt)?;
     text_cases::texts::room(&rt)?;
