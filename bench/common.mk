@@ -3,12 +3,12 @@
 LIB := $(TOP)/target/staticlib/libfishdavit.a
 CXXFLAGS := -std=c++17 -O2 -Wall -Wextra -Werror -I$(TOP)/include
 SANITIZE := -fsanitize=address,undefined -fno-sanitize-recover=all
-PROVED := $(shell find $(TOP)/crates -name '*.rt' -o -name '*.antt') $(TOP)/crates.txt
+# What is proved; rt keeps its own work in the folders out/.
+PROVED := $(shell find $(TOP)/crates -name out -prune -o '(' -name '*.rt' -o -name '*.antt' ')' -print) $(TOP)/crates.txt
 
 $(OUT):
 	mkdir -p $@
 
 # The static library of the proved functions.
 $(LIB): $(PROVED)
-	cd $(TOP) && rt staticlib fishdavit
-	touch $@
+	$(TOP)/tools/build library

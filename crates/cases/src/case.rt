@@ -2,41 +2,38 @@
 ghost use Rattle.std.specs.Prelude.{◌≡◌, set as stored};
 
 use image::Verdict;
+use std::io;
 
-pub fn heading(words: &[u8]) {
-    io::write_all(1, words);
-    io::write_all(1, b"\n");
+pub fn heading(rt: &impl Print, words: &[u8]) -> io::Result<()> {
+    rt.write_all(words)?;
+    rt.write_all(b"\n")
 }
 
-fn wide(x: u8) -> u64 {
-    x as u64
-}
-
-pub fn two_digits(x: u8) {
-    io::print_hex(1, wide(x), 2);
+pub fn two_digits(rt: &impl Print, x: u8) -> io::Result<()> {
+    print!(rt; "{x:02x}")
 }
 
 // An acceptance comes with a count, a refusal at a line.
-pub fn answer(a: Verdict) {
-    io::write_all(1, b": ");
-    two_digits(a.number());
+pub fn answer(rt: &impl Print, a: Verdict) -> io::Result<()> {
+    rt.write_all(b": ")?;
+    two_digits(rt, a.number())?;
     if a.number() == 0 {
-        io::write_all(1, b" with ");
+        rt.write_all(b" with ")?;
     } else {
-        io::write_all(1, b" at ");
+        rt.write_all(b" at ")?;
     }
-    io::print_decimal(1, a.line() as u64);
-    io::write_all(1, b"\n");
+    let place = a.line();
+    println!(rt; "{place}")
 }
 
 // The number alone; xx where it comes with another count of frames or at another line.
-pub fn mark(a: Verdict, frames: usize, line: usize) {
+pub fn mark(rt: &impl Print, a: Verdict, frames: usize, line: usize) -> io::Result<()> {
     let place = if a.number() == 0 { frames } else { line };
-    io::write_all(1, b" ");
+    rt.write_all(b" ")?;
     if a.line() == place {
-        two_digits(a.number());
+        two_digits(rt, a.number())
     } else {
-        io::write_all(1, b"xx");
+        rt.write_all(b"xx")
     }
 }
 

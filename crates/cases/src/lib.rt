@@ -3,5 +3,5 @@
 #![tactic(auto)]
 
 pub mod case;
-pub mod ops;
+pub mod instructions;
 pub mod tables;

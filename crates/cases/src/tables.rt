@@ -3,23 +3,26 @@
 use crate::case;
 use hexadecimal::Number;
 use image::Image;
+use std::io;
 
 // The bytes of a row, its 0a with them.
 const ROW: usize = 22;
 
 // What the title says after its mark and a blank.
-fn heading(title: &[u8]) {
-    if 2 <= title.len() {
-        io::write_all(1, &title[2..]);
+fn heading(rt: &impl Print, title: &[u8]) -> io::Result<()> {
+    if title.len() < 2 {
+        return Ok(());
     }
+    rt.write_all(&title[2..])
 }
 
-fn label(title: &[u8]) {
-    if 3 <= title.len() {
-        let end = title.len() - 1;
-        io::write_all(1, b"  ");
-        io::write_all(1, &title[2..end]);
+fn label(rt: &impl Print, title: &[u8]) -> io::Result<()> {
+    if title.len() < 3 {
+        return Ok(());
     }
+    let end = title.len() - 1;
+    rt.write_all(b"  ")?;
+    rt.write_all(&title[2..end])
 }
 
 fn number(text: &[u8], at: usize, digits: usize) -> u64 {
@@ -58,23 +61,24 @@ fn put_rows(rows: &[u8], table: &mut [u64]) -> usize {
     frames
 }
 
-fn first_judged(table: &[u64], frames: usize) {
-    if frames <= table.len() {
-        case::answer(judge::judge(&table[0..frames]));
+fn first_judged(rt: &impl Print, table: &[u64], frames: usize) -> io::Result<()> {
+    if table.len() < frames {
+        return Ok(());
     }
+    case::answer(rt, judge::judge(&table[0..frames]))
 }
 
-fn judged(title: &[u8], rows: &[u8]) {
+fn judged(rt: &impl Print, title: &[u8], rows: &[u8]) -> io::Result<()> {
     let mut table = [0u64; Image::LINES + 1];
     let frames = put_rows(rows, &mut table);
-    label(title);
-    first_judged(&table, frames);
+    label(rt, title)?;
+    first_judged(rt, &table, frames)
 }
 
-pub fn shown(mark: u8, title: &[u8], rows: &[u8]) {
+pub fn shown(rt: &impl Print, mark: u8, title: &[u8], rows: &[u8]) -> io::Result<()> {
     if mark == b'-' {
-        judged(title, rows);
+        judged(rt, title, rows)
     } else {
-        heading(title);
+        heading(rt, title)
     }
 }

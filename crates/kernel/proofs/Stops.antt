@@ -17,7 +17,6 @@ use Rattle.image.specs.Judge.{judged}
 use Rattle.image.proofs.Accepted.{fine_instruction}
 use Rattle.frame.specs.Ops.{Meaning, takes_imm, takes_input, one, two, may, load, store, goto, goto_if, holds, wait_event, wait_time, notify, notify_after, request, suspend, resume, start_limit, start, unknown, Row, ops, look, look_meaning, uses_of, meaning_of}
 use Rattle.kernel.specs.Design.{Table, threads, updates, length_of, instruction}
-use Rattle.kernel.specs.Kernel.{at}
 use Rattle.kernel.specs.Demand.{is_stop}
 
 abbrev pub RightResult : Result → Type 0

@@ -2,6 +2,7 @@
 use crate::text_case;
 use cases::case;
 use image::{Image, Verdict};
+use std::io;
 
 // The smallest image, which is a header with one cell and a main of length 0, and after its 34 bytes one line more.
 fn small_text() -> [u8; 51] {
@@ -25,37 +26,37 @@ fn retyped(at: usize, byte: u8) -> Verdict {
     first_read(&text, 34)
 }
 
-fn sixteen_bytes(at: usize, line: usize, first: u8) {
+fn sixteen_bytes(rt: &impl Print, at: usize, line: usize, first: u8) -> io::Result<()> {
     for low in 0..16 {
-        case::mark(retyped(at, first | low), 2, line);
+        case::mark(rt, retyped(at, first | low), 2, line)?;
     }
+    Ok(())
 }
 
-fn byte_row(at: usize, line: usize, first: u8) {
-    io::write_all(1, b"  ");
-    case::two_digits(first);
-    io::write_all(1, b":");
-    sixteen_bytes(at, line, first);
-    io::write_all(1, b"\n");
+fn byte_row(rt: &impl Print, at: usize, line: usize, first: u8) -> io::Result<()> {
+    print!(rt; "  {first:02x}:")?;
+    sixteen_bytes(rt, at, line, first)?;
+    rt.write_all(b"\n")
 }
 
 // The smallest image with every byte in turn at one place of a line.
-pub fn every_byte(at: usize, line: usize) {
+pub fn every_byte(rt: &impl Print, at: usize, line: usize) -> io::Result<()> {
     for high in 0..16 {
-        byte_row(at, line, high << 4);
+        byte_row(rt, at, line, high << 4)?;
     }
+    Ok(())
 }
 
-fn start(bytes: usize) {
+fn start(rt: &impl Print, bytes: usize) -> io::Result<()> {
     let text = small_text();
-    io::write_all(1, b"  ");
-    io::print_decimal(1, bytes as u64);
-    case::answer(first_read(&text, bytes));
+    print!(rt; "  {bytes}")?;
+    case::answer(rt, first_read(&text, bytes))
 }
 
 // The first bytes of the text, from none to all.
-pub fn every_start() {
+pub fn every_start(rt: &impl Print) -> io::Result<()> {
     for bytes in 0..52 {
-        start(bytes);
+        start(rt, bytes)?;
     }
+    Ok(())
 }

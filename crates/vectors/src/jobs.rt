@@ -1,7 +1,9 @@
 // The cases of standard input, one after another. Each begins with a line of its own, by whose first byte it is known:
 // `+` is a heading, `-` a table to be judged, `#` a job to be answered. What belongs to it are the lines up to the next
 // that begins with one of the three, or to the input's end.
-ghost use Rattle.std.specs.Prelude.{◌<◌, ◌≤◌, length};
+ghost use Rattle.std.specs.Prelude.{◌<◌, ◌≤◌, length, IfOk};
+
+use std::io;
 
 // More bytes than the file stdin has: what lies past them would be left out, and be missed in what is printed.
 const INPUT: usize = 0x4_0000;
@@ -42,45 +44,47 @@ fn past_lines(text: &[u8], at: usize) -> usize
     line
 }
 
-fn print_first(out: &[u8], bytes: usize) {
-    if bytes <= out.len() {
-        io::write_all(1, &out[0..bytes]);
+fn print_first(rt: &impl Print, out: &[u8], bytes: usize) -> io::Result<()> {
+    if out.len() < bytes {
+        return Ok(());
     }
+    rt.write_all(&out[0..bytes])
 }
 
 // The title is printed as it stands, and after it the whole answer of the program.
-fn answered(title: &[u8], job: &[u8]) {
+fn answered(rt: &impl Print, title: &[u8], job: &[u8]) -> io::Result<()> {
     let mut out = [0u8; job::LONGEST_ANSWER];
     let bytes = job::answer(job, &mut out);
-    io::write_all(1, title);
-    print_first(&out, bytes);
+    rt.write_all(title)?;
+    print_first(rt, &out, bytes)
 }
 
 // One case. Its answer is where the next begins.
-fn one_case(text: &[u8], at: usize) -> usize
+fn one_case(rt: &impl Print, text: &[u8], at: usize) -> io::Result<usize>
     requires { at < length text.now }
-    ensures lower_bound { at < result }
-    ensures upper_bound { result ≤ length text.now }
+    ensures lower_bound { IfOk result (λ next. at < next) }
+    ensures upper_bound { IfOk result (λ next. next ≤ length text.now) }
 {
     let start = past_line(text, at);
     let end = past_lines(text, start);
     if text[at] == b'#' {
-        answered(&text[at..start], &text[start..end]);
+        answered(rt, &text[at..start], &text[start..end])?;
     } else {
-        cases::tables::shown(text[at], &text[at..start], &text[start..end]);
+        cases::tables::shown(rt, text[at], &text[at..start], &text[start..end])?;
     }
-    end
+    Ok(end)
 }
 
-fn each_case(text: &[u8]) {
+fn each_case(rt: &impl Print, text: &[u8]) -> io::Result<()> {
     let mut at = 0;
     while at < text.len() {
-        at = one_case(text, at);
+        at = one_case(rt, text, at)?;
     }
+    Ok(())
 }
 
-pub fn answers() {
+pub fn answers(rt: &(impl Input + Print)) -> io::Result<()> {
     let mut text = [0u8; INPUT];
-    let bytes = io::read_full(0, &mut text);
-    each_case(&text[..bytes]);
+    let bytes = stream::read_full(&mut rt.reader(), &mut text)?;
+    each_case(rt, &text[..bytes])
 }

@@ -4,11 +4,13 @@
 
 mod jobs;
 
-fn main() {
-    cases::ops::every_op_by_body();
-    cases::ops::every_field();
-    text_cases::texts::lines();
-    text_cases::texts::starts();
-    text_cases::texts::room();
-    jobs::answers();
+use std::io;
+
+fn main(rt: HostRuntime) -> io::Result<()> {
+    cases::instructions::every_op_by_body(&rt)?;
+    cases::instructions::every_field(&rt)?;
+    text_cases::texts::lines(&rt)?;
+    text_cases::texts::starts(&rt)?;
+    text_cases::texts::room(&rt)?;
+    jobs::answers(&rt)
 }

@@ -1,8 +1,6 @@
-use Prim.Native.Nat.{◌≤◌, ◌-◌}
-use mathlib.Core.Path.{◌≡◌, refl}
+use mathlib.Core.Path.{refl}
 use borrow.Author.Rules.{rules}
-use lib.ListN.{length, drop, length-set}
-use lib.Seq.{sets}
+use lib.ListN.{length-set}
 use Rattle.laws.specs.Lists.{copy_turn, copy_end}
 use Rattle.reader.proofs.copy.Goals as goal
 

@@ -1,11 +1,8 @@
 use native.Mathlib.Omega.{arith}
-use Prim.Native.Nat.{◌≤◌, ◌-◌, ◌*◌}
-use mathlib.Core.Path.{◌≡◌, refl}
-use mathlib.Core.List.{◌++◌}
+use mathlib.Core.Path.{refl}
 use native.Mathlib.Omega.{arith}
 use borrow.Author.Rules.{rules}
-use lib.ListN.{length, take, length-set}
-use Rattle.lines.specs.Text.{frames_from}
+use lib.ListN.{length-set}
 use Rattle.lines.proofs.Lines.{line_there}
 use Rattle.reader.proofs.Loops.{lines_none, lines_laws}
 use Rattle.reader.proofs.decode_lines.Goals as goal

@@ -1,13 +1,8 @@
-use native.Mathlib.Omega.{arith}
 use Prim.Native.Nat.{◌≤◌, ◌-◌, ◌*◌}
-use mathlib.Core.Path.{◌≡◌, refl}
+use mathlib.Core.Path.{◌≡◌}
 use mathlib.Core.List.{◌++◌}
-use native.Mathlib.Omega.{arith}
-use borrow.Author.Rules.{rules}
-use lib.ListN.{length, take, length-set}
+use lib.ListN.{length, take}
 use Rattle.lines.specs.Text.{frames_from}
-use Rattle.lines.proofs.Lines.{line_there}
-use Rattle.reader.proofs.Loops.{lines_none, lines_laws}
 use Rattle.reader.proofs.decode_lines.Given as goal
 
 abbrev pub invariant-loop-i : goal.invariant-loop-i

@@ -1,5 +1,4 @@
 use Rattle.reader.proofs.Whole.{fill_laws}
-use borrow.Author.Rules.{rules}
 use Rattle.reader.proofs.fill.Goals as goal
 
 pub returns-then-number-gt0 : goal.returns-then-number-gt0

@@ -1,5 +1,4 @@
 use Rattle.lines.proofs.Lines.{line_laws}
-use borrow.Author.Rules.{rules}
 use Rattle.reader.proofs.line_at.Goals as goal
 
 pub returns-then-bytes-at-lt17 : goal.returns-then-bytes-at-lt17

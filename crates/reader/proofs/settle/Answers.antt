@@ -1,5 +1,4 @@
 use Rattle.reader.proofs.Loops.{settle_laws}
-use borrow.Author.Rules.{rules}
 use Rattle.reader.proofs.settle.Goals as goal
 
 pub returns-then-n-eq0 : goal.returns-then-n-eq0

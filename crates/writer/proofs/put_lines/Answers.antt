@@ -1,9 +1,5 @@
-use Prim.Native.Nat.{◌≤◌, ◌-◌, ◌*◌}
-use mathlib.Core.Path.{◌≡◌, refl}
+use mathlib.Core.Path.{refl}
 use borrow.Author.Rules.{rules}
-use lib.ListN.{length, drop}
-use lib.Seq.{sets}
-use Rattle.lines.specs.Text.{text}
 use Rattle.writer.proofs.Whole.{text_turn, text_end}
 use Rattle.writer.proofs.put_lines.Goals as goal
 

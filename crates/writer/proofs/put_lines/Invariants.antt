@@ -1,10 +1,8 @@
 use Prim.Native.Nat.{◌≤◌, ◌-◌, ◌*◌}
-use mathlib.Core.Path.{◌≡◌, refl}
-use borrow.Author.Rules.{rules}
+use mathlib.Core.Path.{◌≡◌}
 use lib.ListN.{length, drop}
 use lib.Seq.{sets}
 use Rattle.lines.specs.Text.{text}
-use Rattle.writer.proofs.Whole.{text_turn, text_end}
 use Rattle.writer.proofs.put_lines.Given as goal
 
 abbrev pub invariant-loop-i : goal.invariant-loop-i

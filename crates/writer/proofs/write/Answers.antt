@@ -1,5 +1,4 @@
 use Rattle.writer.proofs.Whole.{write_laws}
-use borrow.Author.Rules.{rules}
 use Rattle.writer.proofs.write.Goals as goal
 
 pub returns-then-number-ne0 : goal.returns-then-number-ne0

@@ -1,0 +1,9 @@
+-- The answer stands within what is lent for it.
+use Rattle.job.proofs.Stages.{count_within, count_counted}
+use Rattle.ivlrun.proofs.main.Goals as goal
+
+pub slice_bounds-out-end : goal.slice_bounds-out-end
+slice_bounds-out-end c = count_within _ _ _ _ c.answer-m.ensures
+
+pub slice_bounds-write_all-end : goal.slice_bounds-write_all-end
+slice_bounds-write_all-end c = count_counted _ _ _ _ c.answer-m.ensures
