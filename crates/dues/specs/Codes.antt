@@ -1,7 +1,6 @@
 -- What the numbers of due times stand for, in the kernel's types. Every number stands for something; that the lists of events and threads
 -- hold none for the delta phase, which is a mark, is kept by `Shows`.
-use Rattle.std.specs.Prelude.{ℕ, zero, suc, leb}
-use Rattle.laws.specs.Choice.{if◌then◌else◌}
+use Rattle.std.specs.Prelude.{ℕ, zero, suc, leb, if◌then◌else◌}
 use Rattle.kernel.specs.Search.{Found, none, found}
 use Rattle.kernel.specs.Kernel.{Due, never, delta, at}
 use Rattle.dues.specs.declared.Due.{Due as DueCode}

@@ -1,6 +1,5 @@
 -- What the code makes of due times. Document 01, "The kernel"; the crate `shows` says what that is for the kernel they show.
-use Rattle.std.specs.Prelude.{ℕ, zero, suc, ◌+◌, ◌<◌, min, ◌≡◌, Bool, List, length, get_or, set, eqb}
-use Rattle.laws.specs.Choice.{if◌then◌else◌}
+use Rattle.std.specs.Prelude.{ℕ, zero, suc, ◌+◌, ◌<◌, min, ◌≡◌, Bool, List, length, get_or, set, eqb, if◌then◌else◌}
 use Rattle.sets.specs.Sets.{with}
 use Rattle.kernel.specs.Search.{Found, least}
 use Rattle.kernel.specs.Pending.{time_of, is_time}

@@ -1,11 +1,10 @@
 -- What the code makes of the numbers is what the kernel makes of what they stand for. Assumes nothing.
-use Rattle.std.specs.Prelude.{ℕ, zero, suc, ◌≤◌, ◌<◌, min, ◌≡◌, refl, Bool, true, false, ◌&&◌, List, get_or, eqb, ltb, leb}
+use Rattle.std.specs.Prelude.{ℕ, zero, suc, ◌≤◌, ◌<◌, min, ◌≡◌, refl, Bool, true, false, ◌&&◌, List, get_or, eqb, ltb, leb, if◌then◌else◌}
 use Rattle.std.proofs.Common.{sym, ap, ◌∙◌, add-one, arith, le-leb, lt-ltb, le-ltb, eq-eqb, ne_eqb, leb-true, leb-false, eqb-true}
 use Rattle.std.proofs.Math.Nat.{zero-min, min-zero, suc-min-suc, min-eq_left, min-eq_right}
 use Rattle.std.proofs.Math.Decide.{dec_le}
 use Rattle.std.proofs.Math.Dec.{eqb-zero-suc, eqb-suc-zero, eqb-suc-suc}
 use Rattle.std.proofs.lemmas.Bool.{lt-leb, eqb-false}
-use Rattle.laws.specs.Choice.{if◌then◌else◌}
 use Rattle.sets.specs.Sets.{has, with}
 use Rattle.sets.specs.Laws.{has_zero, has_with}
 use Rattle.kernel.specs.Search.{none}

@@ -1,6 +1,5 @@
 -- The parts of what a plain instruction comes to that are arithmetic and jumps.
-use Rattle.std.specs.Prelude.{ℕ, eqb}
-use Rattle.laws.specs.Choice.{if◌then◌else◌}
+use Rattle.std.specs.Prelude.{ℕ, eqb, if◌then◌else◌}
 use Rattle.word.specs.Word.{Result, value, stop}
 use Rattle.effect.specs.declared.Eff.{Eff}
 use Rattle.effect.specs.declared.Eff.TheVariants.{Put, Next, Go, Stop}

@@ -7,7 +7,8 @@ use native.Mathlib.Omega.{arith}
 use borrow.Author.Tests.{not-true, ltb-true, ne_eqb}
 use lib.Dec.{ltb}
 use lib.ListN.{length, get_or}
-use Rattle.laws.specs.Choice.{if◌then◌else◌, and_left, and_right}
+use Rattle.std.specs.Prelude.{if◌then◌else◌}
+use Rattle.laws.specs.Choice.{and_left, and_right}
 use Rattle.kernel.specs.Search.{Found, none, found, nth}
 use Rattle.kernel.proofs.Search.{nth_some, nth_past, nth_at}
 use Rattle.sets.specs.Sets.{has}

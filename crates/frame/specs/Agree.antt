@@ -1,8 +1,8 @@
 -- The table's two columns agree: a cell that an op's meaning reads or writes, and an event or update that it names, stands in a field that the op uses so.
-use Rattle.std.specs.Prelude.{ℕ, ◌+◌, ◌≤◌, ◌<◌, ◌≡◌, refl, Bool, true, false, ◌&&◌, List, [], ◌∷◌, eqb}
+use Rattle.std.specs.Prelude.{ℕ, ◌+◌, ◌≤◌, ◌<◌, ◌≡◌, refl, Bool, true, false, ◌&&◌, List, [], ◌∷◌, eqb, if◌then◌else◌}
 use Rattle.std.proofs.Common.{arith}
 use borrow.Author.Tests.{ltb-true, leb-true}
-use Rattle.laws.specs.Choice.{if◌then◌else◌, and_left, and_right}
+use Rattle.laws.specs.Choice.{and_left, and_right}
 use Rattle.frame.specs.declared.Frame.{Frame}
 use Rattle.frame.specs.declared.Counts.{Counts}
 use Rattle.frame.specs.declared.Kind.{Kind}

@@ -1,6 +1,5 @@
 -- What is wrong with an instruction.
-use Rattle.std.specs.Prelude.{ℕ, ◌+◌, Bool, true, ◌&&◌, eqb, ltb, leb}
-use Rattle.laws.specs.Choice.{if◌then◌else◌}
+use Rattle.std.specs.Prelude.{ℕ, ◌+◌, Bool, true, ◌&&◌, eqb, ltb, leb, if◌then◌else◌}
 use Rattle.frame.specs.declared.Frame.{Frame}
 use Rattle.frame.specs.declared.Counts.{Counts}
 use Rattle.frame.specs.declared.Kind.{Kind}

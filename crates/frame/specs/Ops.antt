@@ -1,6 +1,5 @@
 -- The one table of the op numbers: what each op means, what it uses its fields for, and the bodies that may hold it.
-use Rattle.std.specs.Prelude.{ℕ, Bool, true, false, List, [], ◌∷◌, eqb}
-use Rattle.laws.specs.Choice.{if◌then◌else◌}
+use Rattle.std.specs.Prelude.{ℕ, Bool, true, false, List, [], ◌∷◌, eqb, if◌then◌else◌}
 use Rattle.word.specs.Word.{Result, add_u, sub_u, mul_u, quot_u, rem_u, add_s, sub_s, mul_s, quot_s, rem_s, and_b, or_b, not_b, equal, differ, lt_u, le_u, lt_s, le_s, is_zero}
 use Rattle.frame.specs.declared.Use.{Use}
 use Rattle.frame.specs.declared.Use.TheVariants.{Unused, Cell, Event, Thread, Update, Number, Length, Region, Target}

@@ -1,6 +1,6 @@
 -- Laws of digits, as the code's arms have them, and that reading and writing digits undo each other.
 use Prim.Native.Nat.{ℕ, zero, suc, ◌+◌, ◌-◌, ◌*◌, ◌/◌, ◌%◌, ◌^◌, ◌≤◌, ◌<◌}
-use Rattle.std.specs.Prelude.{◌≡◌, Bool, ◌&&◌, ltb, leb, set, take, drop}
+use Rattle.std.specs.Prelude.{◌≡◌, Bool, ◌&&◌, ltb, leb, set, take, drop, if◌then◌else◌}
 use Rattle.std.proofs.Math.Path.{refl, ap}
 use Rattle.std.proofs.Common.{sym, ◌∙◌, add-one, length-append}
 use Rattle.std.proofs.Math.Bool.{true, false}
@@ -12,7 +12,7 @@ use borrow.Author.Tests.{ltb-true, ltb-false, leb-true, leb-false, lt-ltb, le-lt
 use Rattle.std.proofs.Math.ListN.{length, get_or, length-drop, get_or-append}
 use Rattle.std.proofs.lemmas.List.Edits.{sets}
 use Rattle.std.proofs.Math.Seq.{get_or_at, get_or-drop, take-suc}
-use Rattle.laws.specs.Choice.{if◌then◌else◌, and_left, and_right}
+use Rattle.laws.specs.Choice.{and_left, and_right}
 use Rattle.laws.specs.Lists.{sets_snoc}
 use Rattle.hexadecimal.specs.declared.Number.TheVariants.{Is, Malformed}
 use Rattle.hexadecimal.specs.Hex.{digit_value, digits, value, number_at, digit_of, hex, written}

@@ -9,7 +9,8 @@ use native.Mathlib.Numerals.{add-one}
 use borrow.Author.Tests.{ltb-true, ltb-false, leb-true}
 use lib.Dec.{eqb, ltb, leb}
 use lib.ListN.{length}
-use Rattle.laws.specs.Choice.{if◌then◌else◌, between, and_left, and_right}
+use Rattle.std.specs.Prelude.{if◌then◌else◌}
+use Rattle.laws.specs.Choice.{between, and_left, and_right}
 use Rattle.frame.specs.Fault.{instruction_fault}
 use Rattle.frame.specs.Laws.{fault_small as instruction_small}
 use Rattle.image.specs.Limits.{most_threads, most_events, most_updates, most_cells, most_instructions, most_lines}

@@ -8,7 +8,7 @@ use borrow.Author.Tests.{leb-true}
 use lib.Dec.{eqb, ltb, leb}
 use lib.ListN.{take}
 use lib.Seq.{get_or-take}
-use Rattle.laws.specs.Choice.{if◌then◌else◌}
+use Rattle.std.specs.Prelude.{if◌then◌else◌}
 use Rattle.frame.specs.Fields.{fields}
 use Rattle.frame.specs.Fault.{instruction_fault}
 use Rattle.frame.specs.declared.Frame.{Frame}

@@ -1,7 +1,7 @@
 -- No second verdict fits a contract that fixes what is said: what a verdict says gives it back. Assumes nothing.
 use mathlib.Core.Path.{◌≡◌, refl}
 use lib.Dec.{eqb}
-use Rattle.laws.specs.Choice.{if◌then◌else◌}
+use Rattle.std.specs.Prelude.{if◌then◌else◌}
 use Rattle.laws.specs.Unique.{one_answer}
 use Rattle.image.specs.declared.Verdict.{Verdict}
 use Rattle.image.specs.declared.Verdict.TheVariants.{Done, Line, Header, Body, Op, Field, Short, Extra, Room}

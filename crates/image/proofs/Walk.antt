@@ -8,7 +8,7 @@ use native.Mathlib.Numerals.{add-one}
 use borrow.Author.Tests.{lt-ltb, le-ltb, lt-leb, le-leb, ne_eqb}
 use lib.Dec.{ltb}
 use lib.ListN.{length}
-use Rattle.laws.specs.Choice.{if◌then◌else◌}
+use Rattle.std.specs.Prelude.{if◌then◌else◌}
 use Rattle.frame.specs.Fault.{instruction_fault}
 use Rattle.image.specs.Layout.{frame, counts, bodies, len, lengths, first, due, body_from, body_at, kind_of}
 use Rattle.image.specs.Judge.{say, header_fault, body_fault, fault, ending, rest, look, judged}

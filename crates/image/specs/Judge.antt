@@ -1,6 +1,6 @@
 -- The judge of a table: the fault of a line, given the lines before it; the first faulty line; what the table's end says.
-use Rattle.std.specs.Prelude.{ℕ, zero, suc, ◌+◌, ◌-◌, Bool, ◌&&◌, List, eqb, ltb, leb, length}
-use Rattle.laws.specs.Choice.{if◌then◌else◌, between}
+use Rattle.std.specs.Prelude.{ℕ, zero, suc, ◌+◌, ◌-◌, Bool, ◌&&◌, List, eqb, ltb, leb, length, if◌then◌else◌}
+use Rattle.laws.specs.Choice.{between}
 use Rattle.frame.specs.Fault.{instruction_fault}
 use Rattle.frame.specs.declared.Frame.{Frame}
 use Rattle.image.specs.declared.Verdict.{Verdict}

@@ -1,6 +1,5 @@
 -- How a table lays a design out.
-use Rattle.std.specs.Prelude.{ℕ, zero, suc, ◌+◌, List, ltb, get_or}
-use Rattle.laws.specs.Choice.{if◌then◌else◌}
+use Rattle.std.specs.Prelude.{ℕ, zero, suc, ◌+◌, List, ltb, get_or, if◌then◌else◌}
 use Rattle.frame.specs.Fields.{fields}
 use Rattle.frame.specs.declared.Frame.{Frame}
 use Rattle.frame.specs.declared.Counts.{Counts}

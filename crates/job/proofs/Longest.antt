@@ -7,7 +7,8 @@ use native.Mathlib.Omega.{arith}
 use borrow.Author.Tests.{eqb-true}
 use lib.Dec.{eqb}
 use lib.ListN.{length, get_or, take, replicate, length-append, length-take, length-replicate}
-use Rattle.laws.specs.Choice.{if◌then◌else◌, between}
+use Rattle.std.specs.Prelude.{if◌then◌else◌}
+use Rattle.laws.specs.Choice.{between}
 use Rattle.hexadecimal.specs.declared.Number.{Number}
 use Rattle.hexadecimal.specs.declared.Number.TheVariants.{Is, Malformed}
 use Rattle.frame.specs.Fields.{fields}

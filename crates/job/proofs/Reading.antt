@@ -10,7 +10,8 @@ use borrow.Author.Tests.{ltb-true}
 use lib.Dec.{eqb, ltb, leb}
 use lib.ListN.{length, get_or, set, take}
 use lib.Seq.{take-suc-set}
-use Rattle.laws.specs.Choice.{if◌then◌else◌, and_left, and_right}
+use Rattle.std.specs.Prelude.{if◌then◌else◌}
+use Rattle.laws.specs.Choice.{and_left, and_right}
 use Rattle.hexadecimal.specs.Hex.{digit_value, digits, value, number_at}
 use Rattle.hexadecimal.specs.Laws.{Reads, number_reads}
 use Rattle.hexadecimal.specs.declared.Number.{Number}

@@ -7,7 +7,7 @@ use native.Mathlib.Omega.{arith}
 use native.Mathlib.Numerals.{add-one}
 use borrow.Author.Tests.{not-true, not-false, lt-leb, le-leb}
 use lib.ListN.{length, get_or}
-use Rattle.laws.specs.Choice.{if◌then◌else◌}
+use Rattle.std.specs.Prelude.{if◌then◌else◌}
 use Rattle.frame.specs.Fields.{fields}
 use Rattle.frame.specs.Fault.{instruction_fault, fault_number}
 use Rattle.frame.specs.declared.Frame.{Frame}

@@ -7,7 +7,8 @@ use native.Mathlib.Omega.{arith}
 use lib.Dec.{ltb}
 use lib.ListN.{length}
 use borrow.Author.Tests.{ltb-true}
-use Rattle.laws.specs.Choice.{if◌then◌else◌, and_left, and_right}
+use Rattle.std.specs.Prelude.{if◌then◌else◌}
+use Rattle.laws.specs.Choice.{and_left, and_right}
 use Rattle.kernel.specs.Search.{Found, any}
 use Rattle.kernel.specs.Design.{Table, Body, main, thread, update, threads, updates}
 use Rattle.kernel.specs.Kernel.{delta, Kernel, Deed, nothing, reads, Happening, ran, began, ended, moved, quiet, limited, after, kernel}

@@ -8,7 +8,8 @@ use native.Mathlib.Omega.{arith}
 use borrow.Author.Tests.{ltb-false, leb-true, eqb-true}
 use lib.Dec.{eqb, ltb, leb}
 use lib.ListN.{length}
-use Rattle.laws.specs.Choice.{if◌then◌else◌, and_right}
+use Rattle.std.specs.Prelude.{if◌then◌else◌}
+use Rattle.laws.specs.Choice.{and_right}
 use Rattle.image.specs.Limits.{most_cells, most_choices, most_inputs}
 use Rattle.image.specs.Layout.{counts, bodies, lengths}
 use Rattle.image.specs.Judge.{Said, fault, judged}

@@ -6,7 +6,7 @@ use mathlib.Core.Logic.{◌⊎◌, inl, inr}
 use mathlib.Core.List.{◌++◌}
 use native.Mathlib.Omega.{arith}
 use borrow.Author.Tests.{lt-ltb, eq-eqb}
-use Rattle.laws.specs.Choice.{if◌then◌else◌}
+use Rattle.std.specs.Prelude.{if◌then◌else◌}
 use Rattle.kernel.specs.Search.{Found, none, found, least}
 use Rattle.kernel.specs.Design.{Table, threads, events}
 use Rattle.kernel.specs.Kernel.{Due, never, delta, at, Wait, free, on, till, Kernel, History, kernel}

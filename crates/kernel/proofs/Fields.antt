@@ -1,7 +1,7 @@
 -- One field of a thread, and what leaves it alone.
 use mathlib.Core.Path.{◌≡◌, refl}
 use mathlib.Core.Bool.{Bool, true, false, not, ◌&&◌}
-use Rattle.laws.specs.Choice.{if◌then◌else◌}
+use Rattle.std.specs.Prelude.{if◌then◌else◌}
 use Rattle.kernel.specs.Kernel.{Thread, standing, suspending, asks_back}
 
 pub if_same : {A : Type 0} (b : Bool) (x : A) → (if b then x else x) ≡ x

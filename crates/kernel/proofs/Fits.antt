@@ -6,7 +6,8 @@ use mathlib.Core.List.{◌∷◌, ◌++◌}
 use native.Mathlib.Omega.{arith}
 use lib.Dec.{ltb, eqb}
 use borrow.Author.Tests.{ltb-true}
-use Rattle.laws.specs.Choice.{if◌then◌else◌, and_left}
+use Rattle.std.specs.Prelude.{if◌then◌else◌}
+use Rattle.laws.specs.Choice.{and_left}
 use Rattle.kernel.specs.Design.{Table, Body, main, thread, update, threads, updates, number}
 use Rattle.kernel.specs.Kernel.{Kernel, Deed, nothing, reads, notifies, asks, waits, requests, suspends, resumes, ran, after, kernel}
 use Rattle.kernel.specs.Pending.{runnable, is_requested}

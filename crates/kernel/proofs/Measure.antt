@@ -8,7 +8,7 @@ use mathlib.Core.Logic.{◌⊎◌, inl, inr}
 use native.Mathlib.Omega.{arith}
 use lib.Dec.{ltb, eqb}
 use borrow.Author.Tests.{lt-ltb, eq-eqb, ne_eqb}
-use Rattle.laws.specs.Choice.{if◌then◌else◌}
+use Rattle.std.specs.Prelude.{if◌then◌else◌}
 use Rattle.word.specs.Word.{flag}
 use Rattle.kernel.specs.Search.{found, least, sum, edit}
 use Rattle.kernel.specs.Design.{Table, Body, main, thread, update, threads, events, updates}

@@ -7,7 +7,7 @@ use mathlib.Core.List.{[], ◌∷◌, ◌++◌, append_assoc}
 use native.Mathlib.Omega.{arith}
 use lib.Dec.{eqb}
 use borrow.Author.Tests.{ltb-true, ltb-false, eqb-false}
-use Rattle.laws.specs.Choice.{if◌then◌else◌}
+use Rattle.std.specs.Prelude.{if◌then◌else◌}
 use Rattle.kernel.specs.Search.{Found, none, found, first}
 use Rattle.kernel.specs.Design.{Table, Body, main, thread, update, threads, updates, number}
 use Rattle.kernel.specs.Kernel.{Due, never, delta, at, Kernel, Deed, nothing, reads, Happening, ran, ended, dispatched, finished, began, moved, quiet, limited, History, Stage, during, past, after, kernel}

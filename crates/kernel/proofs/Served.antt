@@ -6,7 +6,7 @@ use mathlib.Core.Bool.{Bool, true, false, ◌&&◌, false≢true}
 use native.Mathlib.Omega.{arith}
 use lib.Dec.{ltb, eqb}
 use borrow.Author.Tests.{ltb-true, ltb-false, lt-ltb, le-ltb, eqb-true, eqb-false}
-use Rattle.laws.specs.Choice.{if◌then◌else◌}
+use Rattle.std.specs.Prelude.{if◌then◌else◌}
 use Rattle.kernel.specs.Search.{add_if, each}
 use Rattle.kernel.specs.Design.{Table, threads, events}
 use Rattle.kernel.specs.Kernel.{Due, never, delta, at, Wait, free, on, till, Thread, waiting, standing, free_on, free_timed, Kernel, Happening, triggered, freed, resumed, History, after, kernel}

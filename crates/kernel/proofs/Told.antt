@@ -5,7 +5,7 @@ use mathlib.Core.Bool.{Bool, true, false, true≢false}
 use mathlib.Core.Logic.{inl}
 use mathlib.Core.List.{List, ◌∷◌, ◌++◌, append_assoc}
 use borrow.Author.Tests.{le-ltb, ltb-true}
-use Rattle.laws.specs.Choice.{if◌then◌else◌}
+use Rattle.std.specs.Prelude.{if◌then◌else◌}
 use Rattle.kernel.specs.Search.{add_if, each}
 use Rattle.kernel.specs.Design.{Table, Body, main, threads, number, length_of}
 use Rattle.kernel.specs.Kernel.{Due, delta, at, Kernel, Deed, nothing, reads, notifies, asks, waits, requests, suspends, resumes, Happening, ran, triggered, freed, resumed, dispatched, moved, History, Stage, before, during, past, kernel}

@@ -7,7 +7,8 @@ use mathlib.Core.List.{[], ◌∷◌}
 use native.Mathlib.Omega.{arith}
 use lib.Dec.{eqb, ltb, leb}
 use borrow.Author.Tests.{eqb-true, eq-eqb, ltb-true, lt-ltb, not-true, leb-true, leb-false}
-use Rattle.laws.specs.Choice.{if◌then◌else◌, and_left, and_right}
+use Rattle.std.specs.Prelude.{if◌then◌else◌}
+use Rattle.laws.specs.Choice.{and_left, and_right}
 use Rattle.kernel.specs.Design.{Table, Body, main, thread, update, threads, updates}
 use Rattle.kernel.specs.Kernel.{Due, never, delta, at, earlier, Wait, free, on, till, Thread, waiting, standing, ending, suspending, asks_back, free_on, free_timed, Kernel, nothing, reads, notifies, asks, waits, requests, suspends, resumes, Happening, ran, triggered, freed, resumed, ended, dispatched, finished, began, moved, quiet, limited, History, during, past, after, kernel}
 use Rattle.kernel.specs.Pending.{runnable, is_requested, is_free}

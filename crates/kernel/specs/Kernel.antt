@@ -1,6 +1,5 @@
 -- What the kernel is after what happened. Document 01, "The kernel".
-use Rattle.std.specs.Prelude.{ℕ, zero, suc, ◌+◌, Bool, true, false, not, ◌&&◌, [], ◌∷◌, eqb, leb}
-use Rattle.laws.specs.Choice.{if◌then◌else◌}
+use Rattle.std.specs.Prelude.{ℕ, zero, suc, ◌+◌, Bool, true, false, not, ◌&&◌, [], ◌∷◌, eqb, leb, if◌then◌else◌}
 use Rattle.kernel.specs.Search.{Found, none, edit}
 use Rattle.kernel.specs.Design.{main, thread, update}
 pub use Rattle.kernel.specs.History.{Due, never, delta, at, Wait, free, on, till, Stage, before, during, past, Deed, nothing, reads, notifies, asks, waits, requests, suspends, resumes, Happening, ran, triggered, freed, resumed, ended, dispatched, finished, began, moved, quiet, limited, History}

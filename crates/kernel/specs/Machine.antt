@@ -1,6 +1,5 @@
 -- Where the machine stands.
-use Rattle.std.specs.Prelude.{ℕ, suc, Bool, true, false, List, [], set, replicate, eqb}
-use Rattle.laws.specs.Choice.{if◌then◌else◌}
+use Rattle.std.specs.Prelude.{ℕ, suc, Bool, true, false, List, [], set, replicate, eqb, if◌then◌else◌}
 use Rattle.kernel.specs.Search.{Found, none, found}
 use Rattle.kernel.specs.Design.{Table, Body, main, cells}
 use Rattle.kernel.specs.Kernel.{History}

@@ -1,6 +1,5 @@
 -- A run and its answer.
-use Rattle.std.specs.Prelude.{ℕ, ◌+◌, ◌*◌, ◌^◌, List, eqb, ltb, length}
-use Rattle.laws.specs.Choice.{if◌then◌else◌}
+use Rattle.std.specs.Prelude.{ℕ, ◌+◌, ◌*◌, ◌^◌, List, eqb, ltb, length, if◌then◌else◌}
 use Rattle.laws.specs.Lists.{over as stored_over}
 use Rattle.image.specs.Limits.{most_cells, most_choices, most_inputs}
 use Rattle.image.specs.Judge.{judged}

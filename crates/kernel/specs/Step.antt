@@ -1,6 +1,5 @@
 -- One step of the machine. Document 01, "The kernel", from start on.
-use Rattle.std.specs.Prelude.{ℕ, zero, suc, Bool, [], ◌∷◌, ◌++◌, ltb}
-use Rattle.laws.specs.Choice.{if◌then◌else◌}
+use Rattle.std.specs.Prelude.{ℕ, zero, suc, Bool, [], ◌∷◌, ◌++◌, ltb, if◌then◌else◌}
 use Rattle.frame.specs.declared.Frame.{Frame}
 use Rattle.frame.specs.Ops.{meaning_of}
 use Rattle.kernel.specs.Search.{nth, any, first}

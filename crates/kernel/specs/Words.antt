@@ -1,6 +1,5 @@
 -- Words over histories, the newest happening first. No mark of the machine and no rule of the kernel is used here.
-use Rattle.std.specs.Prelude.{ℕ, suc, ◌^◌, ◌≤◌, ◌<◌, ◌≡◌, Bool, true, false, not, ◌&&◌, ◌||◌, ◌⊎◌, [], ◌∷◌, eqb}
-use Rattle.laws.specs.Choice.{if◌then◌else◌}
+use Rattle.std.specs.Prelude.{ℕ, suc, ◌^◌, ◌≤◌, ◌<◌, ◌≡◌, Bool, true, false, not, ◌&&◌, ◌||◌, ◌⊎◌, [], ◌∷◌, eqb, if◌then◌else◌}
 use Rattle.kernel.specs.Search.{Found, none, found, sum}
 use Rattle.kernel.specs.Design.{Table, Body, main, thread, update, threads, events, updates}
 use Rattle.kernel.specs.History.{Due, never, delta, at, Wait, free, on, till, Deed, nothing, reads, notifies, asks, waits, requests, suspends, resumes, Happening, ran, triggered, freed, resumed, ended, dispatched, finished, began, moved, quiet, limited, History, Stage, before, during, past}

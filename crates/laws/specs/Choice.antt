@@ -1,12 +1,6 @@
--- A choice by a test, and what tests say when they are put together.
-use Rattle.std.specs.Prelude.{ℕ, ◌≡◌, refl, Bool, true, false, ◌&&◌, eqb, leb}
+-- What tests say when they are put together, and a choice by a test.
+use Rattle.std.specs.Prelude.{ℕ, ◌≡◌, refl, Bool, true, false, ◌&&◌, if◌then◌else◌, eqb, leb}
 use Rattle.std.proofs.Common.{arith, eq-eqb, ne_eqb}
-
-infix 10 if◌then◌else◌
--- the first where the test holds, else the second
-abbrev pub if◌then◌else◌ {ℓ} : {A : Type ℓ} → Bool → A → A → A
-if◌then◌else◌ true x y = x
-if◌then◌else◌ false x y = y
 
 -- low ≤ n ≤ high
 abbrev pub between : (low n high : ℕ) → Bool

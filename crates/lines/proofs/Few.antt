@@ -6,7 +6,7 @@ use mathlib.Core.List.{List}
 use native.Mathlib.Omega.{arith}
 use lib.Dec.{eqb, ltb}
 use lib.ListN.{length}
-use Rattle.laws.specs.Choice.{if◌then◌else◌}
+use Rattle.std.specs.Prelude.{if◌then◌else◌}
 use Rattle.image.specs.Limits.{most_lines}
 use Rattle.image.specs.Judge.{Said, say, judged}
 use Rattle.image.proofs.Accepted.{few_lines}

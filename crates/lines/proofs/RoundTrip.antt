@@ -8,7 +8,7 @@ use borrow.Author.Tests.{ltb-false, eqb-true, eqb-false, le-ltb, eq-eqb}
 use lib.Dec.{eqb, ltb}
 use lib.ListN.{length, get_or, take, drop, length-append, length-drop, get_or-append}
 use lib.Seq.{get_or_at, get_or-append-add, get_or-drop, take-suc, take-add, drop-drop, take_at, take_all}
-use Rattle.laws.specs.Choice.{if◌then◌else◌}
+use Rattle.std.specs.Prelude.{if◌then◌else◌}
 use Rattle.laws.specs.Lists.{over}
 use Rattle.hexadecimal.specs.Hex.{digits, value, number_at, hex}
 use Rattle.hexadecimal.specs.Laws.{length_hex, hex_read, hex_back, Reads, number_reads, reads_number}

@@ -1,6 +1,5 @@
 -- The lines of an image, reading and writing.
-use Rattle.std.specs.Prelude.{ℕ, zero, suc, ◌+◌, ◌*◌, Bool, true, false, List, [], ◌∷◌, ◌++◌, eqb, ltb, length, get_or}
-use Rattle.laws.specs.Choice.{if◌then◌else◌}
+use Rattle.std.specs.Prelude.{ℕ, zero, suc, ◌+◌, ◌*◌, Bool, true, false, List, [], ◌∷◌, ◌++◌, eqb, ltb, length, get_or, if◌then◌else◌}
 use Rattle.laws.specs.Lists.{over}
 use Rattle.hexadecimal.specs.Hex.{number_at, hex}
 use Rattle.hexadecimal.specs.declared.Number.{Number}

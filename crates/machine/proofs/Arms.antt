@@ -7,7 +7,7 @@ use native.Mathlib.Omega.{arith}
 use borrow.Author.Tests.{eqb-false}
 use lib.Dec.{eqb}
 use lib.ListN.{set}
-use Rattle.laws.specs.Choice.{if◌then◌else◌}
+use Rattle.std.specs.Prelude.{if◌then◌else◌}
 use Rattle.kernel.specs.Search.{none, found}
 use Rattle.sets.specs.Sets.{least_of as least_in}
 use Rattle.sets.specs.Laws.{least_in_lem}

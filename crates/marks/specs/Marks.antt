@@ -1,6 +1,5 @@
 -- What the code, here and in the crate `marking`, makes of the marks. Document 01, "The kernel"; the crate `shows` says what that is for the kernel they show.
-use Rattle.std.specs.Prelude.{ℕ, ◌%◌, Bool, not, ◌&&◌, eqb, ltb}
-use Rattle.laws.specs.Choice.{if◌then◌else◌}
+use Rattle.std.specs.Prelude.{ℕ, ◌%◌, Bool, not, ◌&&◌, eqb, ltb, if◌then◌else◌}
 use Rattle.sets.specs.Sets.{has, join, minus, with, without, below, least_of}
 use Rattle.kernel.specs.Search.{Found, none, found}
 use Rattle.marks.specs.declared.Marks.{Marks}

@@ -9,7 +9,8 @@ use lib.ListN.{get_or, set}
 use lib.Dec.{eqb}
 use lib.Bits.{and_le_l}
 use borrow.Author.Tests.{le-ltb, ne_eqb, eqb-false}
-use Rattle.laws.specs.Choice.{if◌then◌else◌, true_not_false}
+use Rattle.std.specs.Prelude.{if◌then◌else◌}
+use Rattle.laws.specs.Choice.{true_not_false}
 use Rattle.sets.specs.Sets.{has, single, minus, without, least_of}
 use Rattle.sets.specs.Laws.{has_zero, has_without, least_in_lem, least_first}
 use Rattle.dues.specs.Laws.{by_size}

@@ -1,8 +1,7 @@
 -- What is in the sets that the phases make. Assumes nothing.
-use Rattle.std.specs.Prelude.{ℕ, zero, suc, ◌<◌, ◌≡◌, refl, Bool, true, false, not, ◌&&◌, ◌||◌, List, [], ◌∷◌, length, get_or, set, eqb, ltb}
+use Rattle.std.specs.Prelude.{ℕ, zero, suc, ◌<◌, ◌≡◌, refl, Bool, true, false, not, ◌&&◌, ◌||◌, List, [], ◌∷◌, length, get_or, set, eqb, ltb, if◌then◌else◌}
 use Rattle.std.proofs.Common.{ap, ◌∙◌, arith, length-set, get_or-set_other, lt-ltb, le-ltb, eqb-true}
 use Rattle.std.proofs.lemmas.Bool.{eqb-false}
-use Rattle.laws.specs.Choice.{if◌then◌else◌}
 use Rattle.sets.specs.Sets.{has, minus}
 use Rattle.sets.specs.Laws.{has_minus}
 use Rattle.kernel.specs.Search.{any}

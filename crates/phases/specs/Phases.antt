@@ -1,7 +1,6 @@
 -- What the code makes of the marks and of the threads that wait for each event. Document 01, "The kernel"; the crate `shows` says what that is
 -- for the kernel they show.
-use Rattle.std.specs.Prelude.{ℕ, zero, suc, List, get_or, set}
-use Rattle.laws.specs.Choice.{if◌then◌else◌}
+use Rattle.std.specs.Prelude.{ℕ, zero, suc, List, get_or, set, if◌then◌else◌}
 use Rattle.sets.specs.Sets.{has, minus}
 use Rattle.marks.specs.declared.Marks.{Marks}
 use Rattle.marks.specs.Marks.{with_waiting}

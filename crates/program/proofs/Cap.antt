@@ -8,7 +8,7 @@ use borrow.Author.Tests.{ltb-true, ltb-false, leb-true, leb-false, lt-ltb, le-lt
 use lib.Dec.{eqb, ltb, leb}
 use lib.ListN.{length, take, drop, replicate, length-take}
 use lib.Seq.{get_or-take, take-nil}
-use Rattle.laws.specs.Choice.{if◌then◌else◌}
+use Rattle.std.specs.Prelude.{if◌then◌else◌}
 use Rattle.laws.specs.Lists.{over}
 use Rattle.hexadecimal.specs.Hex.{digits, value, number_at}
 use Rattle.hexadecimal.specs.declared.Number.{Number}

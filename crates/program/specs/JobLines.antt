@@ -1,6 +1,5 @@
 -- The lines of a job: "line 0, the budget in eight digits; line 1, the choices, two digits each; line 2, the inputs, eight digits each".
-use Rattle.std.specs.Prelude.{ℕ, zero, suc, ◌+◌, ◌*◌, ◌/◌, ◌%◌, Bool, ◌&&◌, List, [], ◌∷◌, eqb, ltb, leb, length, drop}
-use Rattle.laws.specs.Choice.{if◌then◌else◌}
+use Rattle.std.specs.Prelude.{ℕ, zero, suc, ◌+◌, ◌*◌, ◌/◌, ◌%◌, Bool, ◌&&◌, List, [], ◌∷◌, eqb, ltb, leb, length, drop, if◌then◌else◌}
 use Rattle.hexadecimal.specs.Hex.{number_at}
 use Rattle.hexadecimal.specs.declared.Number.{Number}
 use Rattle.hexadecimal.specs.declared.Number.TheVariants.{Is, Malformed}

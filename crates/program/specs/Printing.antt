@@ -1,7 +1,7 @@
 -- "It prints number, body, place or line, time, instructions, choices, inputs, threads not ended, as 2, 2, 4, 8, 8, 4, 4, 4 digits with one
 -- space between; then, unless refused, each of the C cells as eight digits on a line."
-use Rattle.std.specs.Prelude.{ℕ, ◌+◌, ◌*◌, List, [], ◌∷◌, ◌++◌}
-use Rattle.laws.specs.Choice.{if◌then◌else◌, between}
+use Rattle.std.specs.Prelude.{ℕ, ◌+◌, ◌*◌, List, [], ◌∷◌, ◌++◌, if◌then◌else◌}
+use Rattle.laws.specs.Choice.{between}
 use Rattle.hexadecimal.specs.Hex.{hex}
 use Rattle.image.specs.Limits.{most_cells}
 use Rattle.kernel.specs.Run.{Answer, refused}

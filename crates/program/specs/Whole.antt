@@ -1,7 +1,6 @@
 -- "The program and one job whole": from a job's bytes to the printed ones. `printed`, below, takes the job's lines in document 01's order;
 -- each stage stands above the one that hands over to it.
-use Rattle.std.specs.Prelude.{ℕ, ◌+◌, ◌*◌, List, eqb, ltb, leb, length, take, replicate}
-use Rattle.laws.specs.Choice.{if◌then◌else◌}
+use Rattle.std.specs.Prelude.{ℕ, ◌+◌, ◌*◌, List, eqb, ltb, leb, length, take, replicate, if◌then◌else◌}
 use Rattle.laws.specs.Lists.{over}
 use Rattle.hexadecimal.specs.declared.Number.{Number}
 use Rattle.hexadecimal.specs.declared.Number.TheVariants.{Is, Malformed}

@@ -1,5 +1,5 @@
 -- What is in a set, for each way that a set is made; what a set is by what is in it; and its least number.
-use Rattle.std.specs.Prelude.{ℕ, zero, suc, min, max, ◌+◌, ◌-◌, ◌*◌, ◌/◌, ◌%◌, ◌^◌, ◌≤◌, ◌<◌, ◌≡◌, refl, Bool, true, false, not, ◌&&◌, ◌||◌, eqb, ltb}
+use Rattle.std.specs.Prelude.{ℕ, zero, suc, min, max, ◌+◌, ◌-◌, ◌*◌, ◌/◌, ◌%◌, ◌^◌, ◌≤◌, ◌<◌, ◌≡◌, refl, Bool, true, false, not, ◌&&◌, ◌||◌, eqb, ltb, if◌then◌else◌}
 use Rattle.std.proofs.Common.{sym, ap, ◌∙◌, pow-suc, mod-lt, zero-lt-suc, lt_of_lt_of_le, lt_of_le_of_lt, add_comm, one-add, arith, lt-ltb, ne_eqb, eqb-true, ltb-true, ltb-false, pow_pos, pow_mono, shr-shr}
 use Rattle.std.proofs.Math.Nat.{zero-div, div-eq_of_lt}
 use Rattle.std.proofs.lemmas.Bool.{eqb-false}
@@ -8,7 +8,6 @@ use Rattle.std.proofs.Math.Arith.{digits_mod}
 use Rattle.std.proofs.lemmas.Nat.{mod-pow-add, and_shr, or_shr, and_le_l, and_mask}
 use Rattle.std.specs.Int.Bits.{bit_and, bit_or, and_step, or_step}
 use Rattle.std.specs.Int.Count.{count_trailing_zeros, under}
-use Rattle.laws.specs.Choice.{if◌then◌else◌}
 use Rattle.sets.specs.Sets.{has, single, join, minus, with, without, below, least_of}
 
 -- a bit is 0 or 1

@@ -1,8 +1,7 @@
 -- Sets of numbers below 32, each kept as the number whose bits they are.
-use Rattle.std.specs.Prelude.{ℕ, ◌-◌, ◌/◌, ◌%◌, ◌^◌, Bool, eqb, ltb}
+use Rattle.std.specs.Prelude.{ℕ, ◌-◌, ◌/◌, ◌%◌, ◌^◌, Bool, eqb, ltb, if◌then◌else◌}
 use Rattle.std.specs.Int.Bits.{bit_or, bit_and}
 use Rattle.std.specs.Int.Count.{count_trailing_zeros}
-use Rattle.laws.specs.Choice.{if◌then◌else◌}
 
 -- i is in the set s where bit i of s is 1
 unfoldable pub has : (s i : ℕ) → Bool

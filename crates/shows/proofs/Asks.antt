@@ -9,7 +9,8 @@ use native.Mathlib.Nat.{add_comm, mod-eq_of_lt}
 use borrow.Author.Tests.{ltb-true, ltb-false, lt-ltb, le-ltb, eq-eqb, ne_eqb}
 use lib.Dec.{eqb, ltb}
 use lib.ListN.{length, get_or}
-use Rattle.laws.specs.Choice.{if◌then◌else◌, true_not_false}
+use Rattle.std.specs.Prelude.{if◌then◌else◌}
+use Rattle.laws.specs.Choice.{true_not_false}
 use Rattle.sets.specs.Sets.{has, join, minus, least_of}
 use Rattle.sets.specs.Laws.{has_join, has_minus, has_full, minus_fits, is_empty, is_full, not_empty, not_full, least_in_lem, least_first, low_next}
 use Rattle.kernel.specs.Search.{Found, none, found, any, first, lesser, least, sum}

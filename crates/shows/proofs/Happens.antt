@@ -8,7 +8,8 @@ use borrow.Author.Tests.{eq-eqb, ne_eqb}
 use lib.Dec.{eqb, leb, eqb-suc-zero}
 use lib.ListN.{length, get_or, set, length-set}
 use lib.Seq.{get_or-set_same, get_or-set_other}
-use Rattle.laws.specs.Choice.{if◌then◌else◌, true_not_false}
+use Rattle.std.specs.Prelude.{if◌then◌else◌}
+use Rattle.laws.specs.Choice.{true_not_false}
 use Rattle.sets.specs.Sets.{has, minus, with, without}
 use Rattle.sets.specs.Laws.{has_zero, has_with, has_without, has_minus}
 use Rattle.kernel.specs.Search.{none, edit}

@@ -9,7 +9,8 @@ use native.Mathlib.Numerals.{add-one}
 use borrow.Author.Tests.{ltb-true, ltb-false, lt-ltb, le-ltb, eq-eqb}
 use lib.Dec.{eqb, ltb}
 use lib.ListN.{length, get_or, length-map, replicate, length-replicate, get_or-replicate, get_or-eq_default}
-use Rattle.laws.specs.Choice.{if◌then◌else◌, true_not_false, and_left, and_right}
+use Rattle.std.specs.Prelude.{if◌then◌else◌}
+use Rattle.laws.specs.Choice.{true_not_false, and_left, and_right}
 use Rattle.sets.specs.Sets.{has, minus, below}
 use Rattle.sets.specs.Laws.{has_zero, has_minus, has_full, has_below}
 use Rattle.kernel.specs.Search.{Found, none, found, any}

@@ -9,7 +9,8 @@ use borrow.Author.Tests.{eqb-true, eqb-false, ltb-true, ltb-false, lt-ltb, le-lt
 use lib.Dec.{eqb, ltb}
 use lib.ListN.{length, get_or, set, length-set}
 use lib.Seq.{get_or-set_same, get_or-set_other}
-use Rattle.laws.specs.Choice.{if◌then◌else◌, and_left}
+use Rattle.std.specs.Prelude.{if◌then◌else◌}
+use Rattle.laws.specs.Choice.{and_left}
 use Rattle.image.specs.Layout.{bodies}
 use Rattle.kernel.specs.Search.{Found, none, found, nth, any, first, edit}
 use Rattle.kernel.specs.Design.{Table, main, thread, update, threads, updates, number}

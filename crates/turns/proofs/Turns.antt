@@ -9,7 +9,8 @@ use borrow.Author.Tests.{ltb-true, ltb-false, le-ltb, le-leb, lt-leb, ne_eqb}
 use lib.Dec.{eqb, ltb, leb}
 use lib.ListN.{length, get_or, set, length-append}
 use lib.Seq.{set-get_or}
-use Rattle.laws.specs.Choice.{if◌then◌else◌, and_left}
+use Rattle.std.specs.Prelude.{if◌then◌else◌}
+use Rattle.laws.specs.Choice.{and_left}
 use Rattle.frame.specs.Ops.{meaning_of}
 use Rattle.image.specs.Limits.{most_cells}
 use Rattle.image.specs.Layout.{frame, counts, bodies, len, lengths, first, due as due_frames}

@@ -1,6 +1,6 @@
 -- What the code makes of its numbers, turn by turn. Nothing public speaks of it: proofs/ shows that each turn is some steps of the machine.
-use Rattle.std.specs.Prelude.{ℕ, zero, suc, ◌+◌, ◌-◌, ◌%◌, Bool, true, false, not, ◌&&◌, List, [], ◌∷◌, map, eqb, ltb, leb, length, get_or, set, replicate}
-use Rattle.laws.specs.Choice.{if◌then◌else◌, between}
+use Rattle.std.specs.Prelude.{ℕ, zero, suc, ◌+◌, ◌-◌, ◌%◌, Bool, true, false, not, ◌&&◌, List, [], ◌∷◌, map, eqb, ltb, leb, length, get_or, set, replicate, if◌then◌else◌}
+use Rattle.laws.specs.Choice.{between}
 use Rattle.frame.specs.declared.Frame.{Frame}
 use Rattle.frame.specs.Fields.{fields}
 use Rattle.frame.specs.Ops.{Meaning, takes_imm, takes_input, one, two, may, load, store, goto, goto_if, holds, wait_event, wait_time, notify, notify_after, request, suspend, resume, start_limit, start, unknown, meaning_of}

@@ -1,6 +1,5 @@
 -- When the code's numbers stand for a state of the machine. Nothing public speaks of it.
-use Rattle.std.specs.Prelude.{ℕ, zero, suc, ◌+◌, ◌-◌, ◌<◌, ◌≡◌, List, ◌++◌, ltb, length, get_or}
-use Rattle.laws.specs.Choice.{if◌then◌else◌}
+use Rattle.std.specs.Prelude.{ℕ, zero, suc, ◌+◌, ◌-◌, ◌<◌, ◌≡◌, List, ◌++◌, ltb, length, get_or, if◌then◌else◌}
 use Rattle.image.specs.Layout.{bodies, first}
 use Rattle.kernel.specs.Search.{Found, none, found}
 use Rattle.kernel.specs.Design.{Table, Body, main, thread, update, threads as threads_of, cells as cells_of}

@@ -1,6 +1,5 @@
 -- What an outcome of the code stands for, in document 01's numbers, and that it stands for nothing else.
-use Rattle.std.specs.Prelude.{◌≡◌, refl, eqb}
-use Rattle.laws.specs.Choice.{if◌then◌else◌}
+use Rattle.std.specs.Prelude.{◌≡◌, refl, eqb, if◌then◌else◌}
 use Rattle.laws.specs.Unique.{one_answer}
 use Rattle.word.specs.Word.{Result, value, stop}
 use Rattle.word.specs.declared.Outcome.{Outcome}

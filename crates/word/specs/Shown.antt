@@ -1,13 +1,12 @@
 -- The rules of Laws.antt hold for every width from 1 on.
 use Prim.Native.Nat.{ℕ, zero, suc, min, max, ◌-◌, ◌/◌, ◌%◌, ◌^◌, ◌<◌}
 use Rattle.std.proofs.Math.Path.{◌≡◌, ap}
-use Rattle.std.specs.Prelude.{refl, Bool, true, false, ◌↔◌, ◌⊎◌, eqb, ℤ, pos, negsuc, nat_abs, ◌+ℤ◌, ◌-ℤ◌, ◌*ℤ◌}
+use Rattle.std.specs.Prelude.{refl, Bool, true, false, ◌↔◌, ◌⊎◌, eqb, ℤ, pos, negsuc, nat_abs, ◌+ℤ◌, ◌-ℤ◌, ◌*ℤ◌, if◌then◌else◌}
 use Rattle.std.proofs.Common.{sym, ◌∙◌, pow-suc, div-add-mod', arith}
 use Rattle.std.proofs.Math.Logic.{⊎_elim}
 use Rattle.std.proofs.Math.Nat.{mod-lt, div-le_self, mod-le}
 use borrow.Author.Tests.{eq-eqb, ne_eqb, eqb-true}
 use Rattle.std.specs.Int.Signed.{mag, quot_z, rem_z, mag_rem}
-use Rattle.laws.specs.Choice.{if◌then◌else◌}
 use Rattle.word.specs.Word.{Result, value, stop, add_u, sub_u, mul_u, quot_u, rem_u, signed, bits_of, in_range, narrow, add_s, sub_s, mul_s, division_s, quot_s, rem_s, bitwise, and_b, or_b, not_b, flag}
 use Rattle.word.specs.TwosComplement.{half_pos, doubled, in_range_lem, out_of_range, bound_in, bound_out, signed_low, by_half, mag_signed, read_written, written_fits, written_read}
 use Rattle.word.specs.Division.{dividend, smaller, sign, quotient_in, quotient_out}

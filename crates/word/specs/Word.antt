@@ -1,7 +1,6 @@
 -- The arithmetic of cells: document 01, "Instructions", over the width w of a cell in bits. A cell is the number that its bits make, below 2 ^ w.
-use Rattle.std.specs.Prelude.{ℕ, zero, suc, min, max, ◌+◌, ◌-◌, ◌*◌, ◌/◌, ◌%◌, ◌^◌, Bool, true, false, not, ◌&&◌, eqb, ltb, leb, ℤ, pos, negsuc, neg_ℤ, ◌+ℤ◌, ◌-ℤ◌, ◌*ℤ◌}
+use Rattle.std.specs.Prelude.{ℕ, zero, suc, min, max, ◌+◌, ◌-◌, ◌*◌, ◌/◌, ◌%◌, ◌^◌, Bool, true, false, not, ◌&&◌, eqb, ltb, leb, ℤ, pos, negsuc, neg_ℤ, ◌+ℤ◌, ◌-ℤ◌, ◌*ℤ◌, if◌then◌else◌}
 use Rattle.std.specs.Int.Signed.{lt_z, le_z, quot_z, rem_z}
-use Rattle.laws.specs.Choice.{if◌then◌else◌}
 
 -- "Numbers returned": a value for the cell, or the number that the run stops with
 pub data Result : Type 0 where
