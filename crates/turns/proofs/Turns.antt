@@ -13,13 +13,13 @@ use Rattle.std.specs.Prelude.{if◌then◌else◌}
 use Rattle.laws.specs.Choice.{and_left}
 use Rattle.frame.specs.Ops.{meaning_of}
 use Rattle.image.specs.Limits.{most_cells}
-use Rattle.image.specs.Layout.{frame, counts, bodies, len, lengths, first, due as due_frames}
+use Rattle.image.specs.Layout.{frame, bodies, len, lengths, first, due as due_frames}
 use Rattle.image.specs.Judge.{fault, judged}
 use Rattle.image.proofs.Walk.{lengths_grow, first_next, first_grows, due_above}
 use Rattle.image.proofs.Accepted.{accepted_has, few_instructions}
 use Rattle.kernel.specs.Search.{Found, none, found, nth}
 use Rattle.kernel.specs.Design.{Table, main, thread, update, threads, updates, number, cells}
-use Rattle.kernel.specs.Kernel.{Kernel, ending, after, kernel}
+use Rattle.kernel.specs.Kernel.{Kernel, after, kernel}
 use Rattle.kernel.specs.Effect.{stops}
 use Rattle.kernel.specs.Machine.{Job, running, turn as turn_place, evaluation, over, Machine, State}
 use Rattle.kernel.specs.Step.{due, perform, phase_number as end_number, advance, step, steps}

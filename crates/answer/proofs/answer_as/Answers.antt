@@ -1,4 +1,3 @@
-use borrow.Author.Rules.{rules}
 use Rattle.answer.proofs.answer_as.Goals as goal
 
 pub returns : goal.returns

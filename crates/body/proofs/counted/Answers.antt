@@ -1,4 +1,3 @@
-use borrow.Author.Rules.{rules}
 use Rattle.body.proofs.counted.Goals as goal
 
 pub returns : goal.returns

@@ -1,6 +1,5 @@
 use Rattle.body.proofs.Arms.{left_there}
 use Rattle.turns.specs.Code.{body_run}
-use borrow.Author.Rules.{rules}
 use Rattle.body.proofs.run.Goals as goal
 
 pub after_plain-requires : goal.after_plain-requires

@@ -1,4 +1,3 @@
-use borrow.Author.Rules.{rules}
 use Rattle.body.proofs.run_from_place.Goals as goal
 
 pub returns : goal.returns

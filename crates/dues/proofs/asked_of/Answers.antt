@@ -1,4 +1,3 @@
-use borrow.Author.Rules.{rules}
 use Rattle.dues.specs.Dues.{asked_code}
 use Rattle.laws.specs.Choice.{picks}
 use Rattle.dues.proofs.asked_of.Goals as goal

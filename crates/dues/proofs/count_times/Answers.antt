@@ -1,4 +1,3 @@
-use borrow.Author.Rules.{rules}
 use Rattle.dues.proofs.Loops.{times_both}
 use Rattle.dues.proofs.count_times.Goals as goal
 

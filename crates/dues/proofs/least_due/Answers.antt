@@ -1,4 +1,3 @@
-use borrow.Author.Rules.{rules}
 use Rattle.dues.proofs.Loops.{least_both}
 use Rattle.dues.proofs.least_due.Goals as goal
 

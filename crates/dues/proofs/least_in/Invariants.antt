@@ -1,12 +1,10 @@
 use Prim.Native.Nat.{◌≤◌, ◌<◌, ◌-◌}
 use mathlib.Core.Path.{◌≡◌}
 use lib.ListN.{length}
-use borrow.Author.Rules.{rules}
 use Rattle.kernel.specs.Search.{least}
 use Rattle.kernel.specs.Pending.{time_of}
 use Rattle.dues.specs.Codes.{pend_of}
 use Rattle.dues.specs.Dues.{time_at}
-use Rattle.dues.proofs.Loops.{least_laws}
 use Rattle.dues.proofs.least_in.Given as goal
 
 abbrev pub invariant-loop-i : goal.invariant-loop-i

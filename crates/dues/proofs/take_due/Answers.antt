@@ -1,10 +1,5 @@
-use Prim.Native.Nat.{◌≤◌, ◌-◌}
-use mathlib.Core.Path.{◌≡◌}
-use mathlib.Core.Logic.{⊎_elim}
-use lib.ListN.{length}
 use borrow.Author.Rules.{rules}
-use Rattle.dues.specs.Dues.{over_code, due_to}
-use Rattle.dues.proofs.Loops.{map_to, due_laws}
+use Rattle.dues.proofs.Loops.{due_laws}
 use Rattle.dues.proofs.take_due.Goals as goal
 use Rattle.dues.proofs.take_due.Goals.{then-codes-i, else-codes-i}
 

@@ -1,4 +1,3 @@
-use borrow.Author.Rules.{rules}
 use Rattle.dues.proofs.Arms.{time_laws}
 use Rattle.dues.proofs.time_of.Goals as goal
 

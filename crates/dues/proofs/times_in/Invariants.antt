@@ -1,11 +1,8 @@
 use Prim.Native.Nat.{◌≤◌, ◌-◌}
 use mathlib.Core.Path.{◌≡◌}
-use native.Mathlib.Omega.{arith}
 use lib.ListN.{length}
-use borrow.Author.Rules.{rules}
 use Rattle.kernel.specs.Search.{sum}
 use Rattle.dues.specs.Dues.{count_at}
-use Rattle.dues.proofs.Loops.{times_laws, one_time}
 use Rattle.dues.proofs.times_in.Given as goal
 
 abbrev pub invariant-loop-i : goal.invariant-loop-i

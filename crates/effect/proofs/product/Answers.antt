@@ -1,4 +1,3 @@
-use borrow.Author.Rules.{rules}
 use lib.IntN.{◌*ℤ◌}
 use Rattle.word.specs.Word.{mul_s}
 use Rattle.word.proofs.Operands.{asked, product_fits}

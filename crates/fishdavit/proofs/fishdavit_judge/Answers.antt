@@ -1,6 +1,5 @@
 use Rattle.fishdavit.proofs.Small.{small_laws}
 use mathlib.Core.Path.{◌∙◌}
-use borrow.Author.Rules.{rules}
 use Rattle.fishdavit.proofs.fishdavit_judge.Goals as goal
 
 pub told-requires : goal.told-requires

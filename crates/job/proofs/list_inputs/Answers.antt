@@ -1,9 +1,7 @@
-use Prim.Native.Nat.{◌-◌, ◌≤◌}
-use mathlib.Core.Path.{◌≡◌, refl}
+use mathlib.Core.Path.{refl}
 use borrow.Author.Rules.{rules}
-use lib.ListN.{length, take, length-set}
-use Rattle.program.specs.JobLines.{numbers_from}
-use Rattle.job.proofs.Reading.{number_small, follow, numbers_begin, numbers_turn, list_laws}
+use lib.ListN.{length-set}
+use Rattle.job.proofs.Reading.{number_small, numbers_begin, numbers_turn, list_laws}
 use Rattle.job.proofs.list_inputs.Goals as goal
 
 pub loop-i-init : goal.loop-i-init

@@ -1,9 +1,8 @@
 use Prim.Native.Nat.{◌-◌, ◌≤◌}
-use mathlib.Core.Path.{◌≡◌, refl}
-use borrow.Author.Rules.{rules}
-use lib.ListN.{length, take, length-set}
+use mathlib.Core.Path.{◌≡◌}
+use lib.ListN.{length, take}
 use Rattle.program.specs.JobLines.{numbers_from}
-use Rattle.job.proofs.Reading.{number_small, follow, numbers_begin, numbers_turn, list_laws}
+use Rattle.job.proofs.Reading.{follow}
 use Rattle.job.proofs.list_inputs.Given as goal
 
 abbrev pub invariant-loop-i : goal.invariant-loop-i

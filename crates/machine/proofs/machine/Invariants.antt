@@ -1,9 +1,7 @@
-use Rattle.machine.proofs.Arms.{machine_over, machine_turn, machine_done}
 use Rattle.turns.specs.Code.{code, turns}
 use Rattle.shows.specs.Shows.{lists}
 use mathlib.Core.Path.{◌≡◌}
 use lib.ListN.{length}
-use borrow.Author.Rules.{rules}
 use Rattle.machine.proofs.machine.Given as goal
 
 abbrev pub invariant-loop-more : goal.invariant-loop-more

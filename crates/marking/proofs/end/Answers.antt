@@ -1,4 +1,3 @@
-use borrow.Author.Rules.{rules}
 use Rattle.marking.proofs.Arms.{change_laws}
 use Rattle.marking.proofs.end.Goals as goal
 

@@ -1,4 +1,3 @@
-use borrow.Author.Rules.{rules}
 use Rattle.marking.proofs.Arms.{resume_laws}
 use Rattle.marking.proofs.resume.Goals as goal
 

@@ -1,4 +1,3 @@
-use borrow.Author.Rules.{rules}
 use Rattle.marks.specs.Marks.{suspended}
 use Rattle.laws.specs.Choice.{picks}
 use Rattle.marking.proofs.Arms.{resume_laws}

@@ -1,4 +1,3 @@
-use borrow.Author.Rules.{rules}
 use Rattle.marks.proofs.Arms.{straight_laws}
 use Rattle.marks.proofs.idle.Goals as goal
 

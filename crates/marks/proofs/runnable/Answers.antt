@@ -1,4 +1,3 @@
-use borrow.Author.Rules.{rules}
 use Rattle.marks.proofs.Arms.{marks_laws}
 use Rattle.marks.proofs.runnable.Goals as goal
 

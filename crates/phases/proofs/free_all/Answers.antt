@@ -1,8 +1,5 @@
-use Prim.Native.Nat.{◌<◌}
-use mathlib.Core.Path.{◌≡◌}
-use lib.ListN.{length}
 use borrow.Author.Rules.{rules}
-use Rattle.phases.proofs.Loops.{Freeing, freeing_laws}
+use Rattle.phases.proofs.Loops.{freeing_laws}
 use Rattle.phases.proofs.free_all.Goals as goal
 
 pub loop-left-init : goal.loop-left-init

@@ -1,8 +1,7 @@
 use Prim.Native.Nat.{◌<◌}
 use mathlib.Core.Path.{◌≡◌}
 use lib.ListN.{length}
-use borrow.Author.Rules.{rules}
-use Rattle.phases.proofs.Loops.{Freeing, freeing_laws}
+use Rattle.phases.proofs.Loops.{Freeing}
 use Rattle.phases.proofs.free_all.Given as goal
 
 abbrev pub invariant-loop-left : goal.invariant-loop-left

@@ -1,4 +1,3 @@
-use borrow.Author.Rules.{rules}
 use Rattle.phases.proofs.Arms.{served_laws}
 use Rattle.phases.proofs.serve_delta.Goals as goal
 

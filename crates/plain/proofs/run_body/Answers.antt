@@ -1,8 +1,6 @@
 use borrow.Author.Rules.{rules}
 use Rattle.plain.proofs.Turns.{loop_laws, loop_puts, loop_nexts, loop_goes}
-use Rattle.plain.specs.Plain.{plain}
-use mathlib.Core.Path.{◌≡◌, refl}
-use lib.ListN.{length}
+use mathlib.Core.Path.{refl}
 use Rattle.plain.proofs.run_body.Goals as goal
 use Rattle.plain.proofs.run_body.Goals.{in-Put, in-Next, in-Go}
 

@@ -1,8 +1,5 @@
-use borrow.Author.Rules.{rules}
-use mathlib.Core.Logic.{⊎_elim}
-use Rattle.plain.proofs.Turns.{loop_laws, loop_puts, loop_nexts, loop_goes}
 use Rattle.plain.specs.Plain.{plain}
-use mathlib.Core.Path.{◌≡◌, refl}
+use mathlib.Core.Path.{◌≡◌}
 use lib.ListN.{length}
 use Rattle.plain.proofs.run_body.Given as goal
 

@@ -1,5 +1,4 @@
 use Rattle.printing.proofs.Puts.{counts_put}
-use borrow.Author.Rules.{rules}
 use Rattle.printing.proofs.put_counts.Goals as goal
 
 pub returns : goal.returns

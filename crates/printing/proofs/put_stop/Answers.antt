@@ -1,5 +1,4 @@
 use Rattle.printing.proofs.Puts.{stop_put}
-use borrow.Author.Rules.{rules}
 use Rattle.printing.proofs.put_stop.Goals as goal
 
 pub returns : goal.returns

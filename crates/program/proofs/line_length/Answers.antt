@@ -1,8 +1,4 @@
-use Prim.Native.Nat.{◌+◌, ◌-◌, ◌≤◌}
-use mathlib.Core.Path.{◌≡◌}
 use borrow.Author.Rules.{rules}
-use lib.ListN.{length, drop}
-use Rattle.program.specs.JobLines.{line_length}
 use Rattle.program.proofs.Lines.{line_laws}
 use Rattle.program.proofs.line_length.Goals as goal
 

@@ -1,9 +1,4 @@
 use Rattle.run.proofs.Ends.{firsts_none, firsts_more, firsts_end, first_begins, line_next, frame_there, line_fits}
-use Rattle.turns.specs.Stands.{Firsts}
-use Rattle.image.specs.Layout.{first, bodies}
-use mathlib.Core.Path.{◌≡◌}
-use lib.ListN.{length}
-use Prim.Native.Nat.{◌≤◌, ◌-◌}
 use borrow.Author.Rules.{rules}
 use Rattle.run.proofs.put_firsts.Goals as goal
 

@@ -1,5 +1,4 @@
 use Rattle.run.proofs.Ends.{first_ran_is}
-use borrow.Author.Rules.{rules}
 use Rattle.run.proofs.start.Goals as goal
 
 pub returns : goal.returns

@@ -1,8 +1,4 @@
 use Rattle.run.proofs.Ends.{zeroed_none, zeroed_more, zeroed_all}
-use Rattle.turns.specs.Code.{zeroed}
-use mathlib.Core.Path.{◌≡◌}
-use lib.ListN.{length}
-use Prim.Native.Nat.{◌≤◌, ◌-◌}
 use borrow.Author.Rules.{rules}
 use Rattle.run.proofs.zero_cells.Goals as goal
 

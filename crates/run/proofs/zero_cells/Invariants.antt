@@ -1,9 +1,7 @@
-use Rattle.run.proofs.Ends.{zeroed_none, zeroed_more, zeroed_all}
 use Rattle.turns.specs.Code.{zeroed}
 use mathlib.Core.Path.{◌≡◌}
 use lib.ListN.{length}
 use Prim.Native.Nat.{◌≤◌, ◌-◌}
-use borrow.Author.Rules.{rules}
 use Rattle.run.proofs.zero_cells.Given as goal
 
 abbrev pub invariant-loop-i : goal.invariant-loop-i

@@ -1,4 +1,3 @@
-use borrow.Author.Rules.{rules}
 use Rattle.waits.proofs.Arms.{waiter_laws}
 use Rattle.waits.proofs.free_on.Goals as goal
 

@@ -1,10 +1,6 @@
-use mathlib.Core.Path.{◌≡◌, ap, ◌∙◌}
-use lib.ListN.{length, length-set}
-use Rattle.sets.specs.Sets.{has}
-use Rattle.dues.specs.Dues.{changed, asked_code}
+use mathlib.Core.Path.{◌∙◌}
 use Rattle.laws.specs.Lists.{set_past}
 use Rattle.waits.proofs.Arms.{moment_laws, asked_here}
-use borrow.Author.Rules.{rules}
 use Rattle.waits.proofs.notify_after.Goals as goal
 use Rattle.waits.proofs.notify_after.Goals.{then-e-pends, else-e-pends}
 
