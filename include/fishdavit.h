@@ -1,4 +1,5 @@
-/* Fishdavit: design images judged, read, written and run. C and C++ link target/staticlib/libfishdavit.a.
+/* Fishdavit: design images judged, read, written and run. C and C++ link target/staticlib/libfishdavit.a,
+ * which tools/build library makes.
  *
  * Every call returns, whatever it is given. A pointer must be valid for as many elements as the length after it says, aligned for its
  * type and not null, even where the length is 0; the buffers of one call must not overlap. Nothing else is asked.
