@@ -1,4 +1,4 @@
--- The rules of the arithmetic, over the width w in bits. Shown.antt has them for every width from 1 on.
+-- The rules of the arithmetic, over the width w in bits. proofs/Shown.antt has them for every width from 1 on.
 use Rattle.std.specs.Prelude.{ℕ, ◌+◌, ◌-◌, ◌*◌, ◌/◌, ◌%◌, ◌^◌, ◌<◌, ◌≡◌, Bool, true, false, ◌↔◌, ◌⊎◌, ℤ, pos, negsuc, neg_ℤ, nat_abs, ◌+ℤ◌, ◌-ℤ◌, ◌*ℤ◌}
 use Rattle.std.specs.Int.Signed.{non_neg}
 use Rattle.word.specs.Word.{Result, value, stop, add_u, sub_u, mul_u, quot_u, rem_u, signed, bits_of, in_range, add_s, sub_s, mul_s, quot_s, rem_s, and_b, or_b, not_b, flag}

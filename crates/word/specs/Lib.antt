@@ -4,4 +4,3 @@ pub mod Said
 pub mod Laws
 pub mod TwosComplement
 pub mod Division
-pub mod Shown
