@@ -102,6 +102,7 @@ pub fn count_times(pends: &[u64], waits: &[u64]) -> usize
 }
 
 // The number of the moment that a delay leads to.
+#[tactic(auto, unfolding(crate::specs::Dues::ask_code))]
 pub fn ask(time: u32, delay: u32) -> u64
     ensures { result ≡ ask_code time delay }
 {

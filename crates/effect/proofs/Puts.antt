@@ -2,11 +2,17 @@
 use Prim.Native.Nat.{ℕ}
 use mathlib.Core.Path.{◌≡◌, ap, ◌∙◌}
 use borrow.Author.Tests.{eq-eqb, ne_eqb}
-use lib.IntN.{ℤ}
+use lib.IntN.{ℤ, pos, negsuc}
+use lib.Signed.{lt_z}
+use mathlib.Core.Bool.{true}
+use native.Mathlib.Omega.{arith}
 use mir.Syntax.{w32, w64}
-use mir.Val.{to_z, of_z, Fits}
+use mir.Val.{to_z, of_z, Fits, SFits}
+use mir.ValLaws.{to_z-of_z}
 use Rattle.word.specs.Word.{signed, narrow}
 use Rattle.word.specs.Said.{said}
+use Rattle.word.specs.TwosComplement.{out_of_range}
+use Rattle.word.proofs.Signs.{under, over}
 use Rattle.word.proofs.Operands.{Roomy, exact}
 use Rattle.word.specs.declared.Outcome.{Outcome}
 use Rattle.word.specs.declared.Outcome.TheVariants.{Value, ZeroDivisor, OutOfRange}
@@ -37,3 +43,13 @@ module _ (x : ℕ) where
 
   pub jump_taken : (to : ℕ) → (x ≡ 0 → ⊥) → Go to ≡ jump_of x to
   jump_taken to e = rw (ne_eqb x 0 e)
+
+-- a signed result under the range or over it stops the run
+module _ (d : ℕ) (s : ℤ) (fits : SFits w64 s) where
+  pub under_range : lt_z (to_z w64 (of_z w64 s)) (negsuc 2147483647) ≡ true → Stop 15 ≡ put_of d (narrow 32 s)
+  unfolding narrow
+  under_range e = rw (out_of_range 32 s (omega (arith, under s (rw (to_z-of_z w64 s fits) at e))))
+
+  pub over_range : lt_z (pos 2147483647) (to_z w64 (of_z w64 s)) ≡ true → Stop 15 ≡ put_of d (narrow 32 s)
+  unfolding narrow
+  over_range e = rw (out_of_range 32 s (omega (arith, over s (rw (to_z-of_z w64 s fits) at e))))

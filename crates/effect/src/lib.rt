@@ -32,6 +32,7 @@ pub fn put(d: usize, r: Outcome) -> Eff
 
 // Cell d takes a signed result where the range has it. The result is tested here and not in `signed`, because an effect, unlike an
 // outcome, is too large for the compiler to carry it through the test as one number.
+#[tactic(auto, using(crate::proofs::Puts::under_range, crate::proofs::Puts::over_range))]
 fn put_signed(d: usize, s: i64) -> Eff
     ensures { result ≡ put_of d (narrow 32 s) }
 {
@@ -64,6 +65,7 @@ pub fn product(d: usize, x: u32, y: u32) -> Eff
 }
 
 // Goto where the cell is not 0.
+#[tactic(auto, using(crate::proofs::Puts::jump_not, crate::proofs::Puts::jump_taken))]
 pub fn jump(x: u32, to: usize) -> Eff
     ensures { result ≡ jump_of x to }
 {

@@ -96,6 +96,7 @@ fn list_inputs(text: &[u8], n: usize, inputs: &mut [u32]) -> Listed
 }
 
 // The inputs on the first line, which is so long.
+#[tactic(auto, using(program::proofs::Lines::numbers_laws))]
 fn inputs_of(text: &[u8], line: usize, inputs: &mut [u32]) -> Listed
     requires { (line ≡ line_length text.now) × (most_inputs ≤ length inputs.old) }
     ensures { (listed result inputs.new ≡ numbers_of 8 most_inputs text.now) × (count_of result ≤ most_inputs) }
@@ -200,6 +201,7 @@ fn print(job: &[u8], out: &mut [u8]) -> usize
 
 // Writes the answer to a job to the start of out and answers how many bytes it has; writes nothing and answers 0 where out has not room
 // for the longest answer. What stands past the longest job is not looked at, so the time does not grow with it.
+#[tactic(auto, using(crate::proofs::Stages::no_room))]
 pub fn answer(job: &[u8], out: &mut [u8]) -> usize
     ensures { wrote result out.new ≡ answered job.now out.old }
 {

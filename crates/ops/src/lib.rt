@@ -19,6 +19,7 @@ fn used(d: Use, a: Use, b: Use, imm: Use, bodies: Bodies) -> Known
 }
 
 // What an op uses: the one decision over the op numbers.
+#[tactic(auto, using(crate::proofs::Ranges::unsigned_three))]
 pub fn uses_of(op: u8) -> Known
     ensures { result ≡ uses_of op }
 {

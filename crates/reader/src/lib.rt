@@ -82,6 +82,7 @@ fn fill(v: Verdict, lines: &[u64], table: &mut [u64]) -> Verdict
 }
 
 // Reads an image's lines into a table. They go to a table of its own first, so that a refusal changes nothing.
+#[tactic(auto, using(crate::proofs::Whole::read_laws))]
 pub fn read(bytes: &[u8], table: &mut [u64]) -> Verdict
     ensures { outcome (said result) table.new ≡ reading bytes.now table.old }
 {

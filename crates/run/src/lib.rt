@@ -193,6 +193,7 @@ fn refusal(number: u8, line: usize) -> Answer
 }
 
 // Runs a design on a table, with the order of threads, the inputs and the budget as given, and the design's cells in the lent ones.
+#[tactic(auto, using(crate::proofs::Ends::asked_choices))]
 pub fn run(table: &[u64], choices: &[u8], inputs: &[u32], budget: u32, cells: &mut [u32]) -> Answer
     ensures { record { answer = said result; cells = cells.new } ≡ asked_for (job_of table.now choices.now inputs.now budget) cells.old }
 {

@@ -48,6 +48,7 @@ pub fn without(s: u32, i: usize) -> u32
 }
 
 // All numbers below n.
+#[tactic(auto, using(crate::proofs::Shifts::below_past))]
 pub fn below(n: usize) -> u32
     ensures { result ≡ below n }
 {

@@ -37,6 +37,7 @@ pub fn wide(x: u32) -> i64
 }
 
 // Whether an i32 holds the quotient of two. It holds all but that of the lower end of the range by -1, one past the upper end.
+#[tactic(auto, using(word::proofs::Signs::least))]
 fn divides_in_range(a: i32, b: i32) -> bool
     ensures { result ≡ in_range 32 (quot_z a b) }
 {

@@ -9,17 +9,9 @@ use mir.Val.{SFits, to_z, of_z}
 use mir.Syntax.{w32, w64}
 use mir.ValLaws.{to_z-of_z}
 use Rattle.word.specs.Word.{narrow, bits_of}
-use Rattle.word.specs.TwosComplement.{in_range_lem, out_of_range}
-use Rattle.word.proofs.Signs.{under, over, within}
+use Rattle.word.specs.TwosComplement.{in_range_lem}
+use Rattle.word.proofs.Signs.{within}
 use Rattle.effect.proofs.put_signed.Goals as goal
-
-pub returns-then-s-ltminus2147483648 : goal.returns-then-s-ltminus2147483648
-unfolding narrow
-returns-then-s-ltminus2147483648 c = rw (out_of_range 32 c.args.s (omega (arith, under c.args.s (rw (to_z-of_z w64 _ c.ranges.s) at c.if-s-ltminus2147483648.true))))
-
-pub returns-then-s-gt2147483647 : goal.returns-then-s-gt2147483647
-unfolding narrow
-returns-then-s-gt2147483647 c = rw (out_of_range 32 c.args.s (omega (arith, over c.args.s (rw (to_z-of_z w64 _ c.ranges.s) at c.if-s-gt2147483647.true))))
 
 small : (s : ℤ) → SFits w64 s → lt_z (to_z w64 (of_z w64 s)) (negsuc 2147483647) ≡ false → lt_z (pos 2147483647) (to_z w64 (of_z w64 s)) ≡ false → mag s < 2 ^ 31
 small s h a b = ⊎_elim (λ h. omega arith) (λ h. omega arith) (within s (rw (to_z-of_z w64 s h) at a) (rw (to_z-of_z w64 s h) at b))

@@ -1,9 +1,6 @@
-use Rattle.job.proofs.Stages.{no_room, room, room_cut, first_counted}
+use Rattle.job.proofs.Stages.{room, room_cut, first_counted}
 use borrow.Author.Rules.{rules}
 use Rattle.job.proofs.answer.Goals as goal
-
-pub returns-then-out-lt-LONGEST_ANSWER : goal.returns-then-out-lt-LONGEST_ANSWER
-returns-then-out-lt-LONGEST_ANSWER c = search (no_room, rules)
 
 pub slice_bounds-print-end : goal.slice_bounds-print-end
 slice_bounds-print-end c = search (first_counted, rules)

@@ -8,8 +8,5 @@ returns-then-text-line c = (search (numbers_laws, rules), search rules)
 pub returns-then-line-ne0 : goal.returns-then-line-ne0
 returns-then-line-ne0 c = (search (numbers_laws, rules), search rules)
 
-pub returns-then-line-gt-INPUTS : goal.returns-then-line-gt-INPUTS
-returns-then-line-gt-INPUTS c = (search (numbers_laws, rules), search rules)
-
 pub returns : goal.returns
 returns c = (search (numbers_laws, rules), search rules)

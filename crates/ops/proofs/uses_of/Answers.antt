@@ -11,7 +11,7 @@ use Rattle.frame.specs.declared.Known.TheVariants.{Unknown, Op}
 use Rattle.frame.specs.declared.Use.TheVariants.{Unused, Cell, Length, Region}
 use Rattle.frame.specs.declared.Bodies.TheVariants.{All}
 use Rattle.frame.specs.Ops.{uses_of}
-use borrow.Author.Rules.{rules}
+use Rattle.ops.proofs.Ranges.{three}
 use Rattle.ops.proofs.uses_of.Goals as goal
 
 -- the single numbers and the ranges of the match
@@ -41,21 +41,18 @@ abbrev unknown : Known → Bool
 unknown Unknown = true
 unknown (Op u) = false
 
-is-unknown : (k : Known) → T (unknown k) → Unknown ≡ k
-is-unknown Unknown t = refl
-is-unknown (Op u) t = absurd t
+is_unknown : (k : Known) → T (unknown k) → Unknown ≡ k
+is_unknown Unknown t = refl
+is_unknown (Op u) t = absurd t
 
 every : AllTold (λ n. unknown (uses_of n)) singles ranges
 unfolding uses_of
 every = tt
 
 otherwise : (n : ℕ) → n < 256 → Rest (Unit {0}) singles n → Outside ranges n → Unknown ≡ uses_of n
-otherwise n l r o = is-unknown (uses_of n) (the_rest (λ m. unknown (uses_of m)) singles ranges every n l r o)
+otherwise n l r o = is_unknown (uses_of n) (the_rest (λ m. unknown (uses_of m)) singles ranges every n l r o)
 
 -- what the ops of a range use
-abbrev three : Known
-three = Op (record { d = Cell; a = Cell; b = Cell; imm = Unused; bodies = All })
-
 abbrev region : Known
 region = Op (record { d = Cell; a = Cell; b = Length; imm = Region; bodies = All })
 
@@ -65,32 +62,25 @@ test = Op (record { d = Unused; a = Cell; b = Unused; imm = Unused; bodies = All
 abbrev Is : Known → ℕ → Type 0
 Is k n = k ≡ uses_of n
 
-from-10 : (n : ℕ) → 0x10 ≤ n → n < 0x10 + 5 → three ≡ uses_of n
+from_18 : (n : ℕ) → 0x18 ≤ n → n < 0x18 + 5 → three ≡ uses_of n
 unfolding uses_of
-from-10 = in_span (Is three) 0x10 5 (refl, (refl, (refl, (refl, (refl, tt)))))
+from_18 = in_span (Is three) 0x18 5 (refl, (refl, (refl, (refl, (refl, tt)))))
 
-below-15 : (n : ℕ) → n ≤ 0x14 → n < 0x10 + 5
-below-15 n h = omega arith
-
-from-18 : (n : ℕ) → 0x18 ≤ n → n < 0x18 + 5 → three ≡ uses_of n
+from_20 : (n : ℕ) → 0x20 ≤ n → n < 0x20 + 2 → three ≡ uses_of n
 unfolding uses_of
-from-18 = in_span (Is three) 0x18 5 (refl, (refl, (refl, (refl, (refl, tt)))))
+from_20 = in_span (Is three) 0x20 2 (refl, (refl, tt))
 
-from-20 : (n : ℕ) → 0x20 ≤ n → n < 0x20 + 2 → three ≡ uses_of n
+from_28 : (n : ℕ) → 0x28 ≤ n → n < 0x28 + 6 → three ≡ uses_of n
 unfolding uses_of
-from-20 = in_span (Is three) 0x20 2 (refl, (refl, tt))
+from_28 = in_span (Is three) 0x28 6 (refl, (refl, (refl, (refl, (refl, (refl, tt))))))
 
-from-28 : (n : ℕ) → 0x28 ≤ n → n < 0x28 + 6 → three ≡ uses_of n
+from_30 : (n : ℕ) → 0x30 ≤ n → n < 0x30 + 2 → region ≡ uses_of n
 unfolding uses_of
-from-28 = in_span (Is three) 0x28 6 (refl, (refl, (refl, (refl, (refl, (refl, tt))))))
+from_30 = in_span (Is region) 0x30 2 (refl, (refl, tt))
 
-from-30 : (n : ℕ) → 0x30 ≤ n → n < 0x30 + 2 → region ≡ uses_of n
+from_50 : (n : ℕ) → 0x50 ≤ n → n < 0x50 + 2 → test ≡ uses_of n
 unfolding uses_of
-from-30 = in_span (Is region) 0x30 2 (refl, (refl, tt))
-
-from-50 : (n : ℕ) → 0x50 ≤ n → n < 0x50 + 2 → test ≡ uses_of n
-unfolding uses_of
-from-50 = in_span (Is test) 0x50 2 (refl, (refl, tt))
+from_50 = in_span (Is test) 0x50 2 (refl, (refl, tt))
 
 pub returns-in-1 : goal.returns-in-1
 unfolding uses_of
@@ -148,23 +138,20 @@ pub returns-in-104 : goal.returns-in-104
 unfolding uses_of
 returns-in-104 c = c.used-in-104.ensures ∙ sym (ap uses_of c.in-104.is)
 
-pub returns-in-16-to-20 : goal.returns-in-16-to-20
-returns-in-16-to-20 c = c.used-in-16-to-20.ensures ∙ from-10 _ (omega arith) (below-15 _ (search rules))
-
 pub returns-in-24-to-28 : goal.returns-in-24-to-28
-returns-in-24-to-28 c = c.used-in-24-to-28.ensures ∙ from-18 _ (omega arith) (omega arith)
+returns-in-24-to-28 c = c.used-in-24-to-28.ensures ∙ from_18 _ (omega arith) (omega arith)
 
 pub returns-in-32-to-33 : goal.returns-in-32-to-33
-returns-in-32-to-33 c = c.used-in-32-to-33.ensures ∙ from-20 _ (omega arith) (omega arith)
+returns-in-32-to-33 c = c.used-in-32-to-33.ensures ∙ from_20 _ (omega arith) (omega arith)
 
 pub returns-in-40-to-45 : goal.returns-in-40-to-45
-returns-in-40-to-45 c = c.used-in-40-to-45.ensures ∙ from-28 _ (omega arith) (omega arith)
+returns-in-40-to-45 c = c.used-in-40-to-45.ensures ∙ from_28 _ (omega arith) (omega arith)
 
 pub returns-in-48-to-49 : goal.returns-in-48-to-49
-returns-in-48-to-49 c = c.used-in-48-to-49.ensures ∙ from-30 _ (omega arith) (omega arith)
+returns-in-48-to-49 c = c.used-in-48-to-49.ensures ∙ from_30 _ (omega arith) (omega arith)
 
 pub returns-in-80-to-81 : goal.returns-in-80-to-81
-returns-in-80-to-81 c = c.used-in-80-to-81.ensures ∙ from-50 _ (omega arith) (omega arith)
+returns-in-80-to-81 c = c.used-in-80-to-81.ensures ∙ from_50 _ (omega arith) (omega arith)
 
 pub returns-in_default : goal.returns-in_default
 returns-in_default c = otherwise _ (omega arith) c.in_default.in_default-own.rest (omega arith)

@@ -2,9 +2,6 @@ use Rattle.reader.proofs.Whole.{read_laws, part_fits, part_counted}
 use borrow.Author.Rules.{rules}
 use Rattle.reader.proofs.read.Goals as goal
 
-pub returns-then-table-lt-LINES : goal.returns-then-table-lt-LINES
-returns-then-table-lt-LINES c = search read_laws
-
 pub slice_bounds-lines-end : goal.slice_bounds-lines-end
 slice_bounds-lines-end c = search (part_counted, rules)
 

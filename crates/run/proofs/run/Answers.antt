@@ -1,9 +1,6 @@
-use Rattle.run.proofs.Ends.{asked_choices, asked_inputs, asked_room, asked_run, asked_refused, judged_low, judged_good}
+use Rattle.run.proofs.Ends.{asked_inputs, asked_room, asked_run, asked_refused, judged_low, judged_good}
 use borrow.Author.Rules.{rules}
 use Rattle.run.proofs.run.Goals as goal
-
-pub returns-then-choices-gt-CHOICES : goal.returns-then-choices-gt-CHOICES
-returns-then-choices-gt-CHOICES c = search (asked_choices, rules)
 
 pub returns-then-inputs-gt-INPUTS : goal.returns-then-inputs-gt-INPUTS
 returns-then-inputs-gt-INPUTS c = search (asked_inputs, rules)

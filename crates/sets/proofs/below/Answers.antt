@@ -1,9 +1,6 @@
 use native.Mathlib.Omega.{arith}
-use Rattle.sets.proofs.Shifts.{shifted_pos, below_in, below_past}
+use Rattle.sets.proofs.Shifts.{shifted_pos, below_in}
 use Rattle.sets.proofs.below.Goals as goal
-
-pub returns-then-n-ge32 : goal.returns-then-n-ge32
-returns-then-n-ge32 c = below_past c.args.n (omega arith)
 
 pub overflow_sub-result : goal.overflow_sub-result
 overflow_sub-result c = omega (arith, shifted_pos c.args.n (omega arith))

@@ -1,1 +1,0 @@
--- The checker makes this by itself; it is written out so that a wrong test is refused here and not where the machine calls it.
