@@ -32,7 +32,7 @@ pub fn put(d: usize, r: Outcome) -> Eff
 
 // Cell d takes a signed result where the range has it. The result is tested here and not in `signed`, because an effect, unlike an
 // outcome, is too large for the compiler to carry it through the test as one number.
-#[tactic(auto, using(crate::proofs::Puts::under_range, crate::proofs::Puts::over_range))]
+#[tactic(auto, using(crate::proofs::Puts::under_range, crate::proofs::Puts::over_range, crate::proofs::Puts::in_cell, crate::proofs::Puts::cell_taken))]
 fn put_signed(d: usize, s: i64) -> Eff
     ensures { result ≡ put_of d (narrow 32 s) }
 {
