@@ -7,19 +7,16 @@ ghost use Rattle.image.specs.Judge.{said};
 ghost use Rattle.lines.specs.Text.{line_at, settled, outcome, read_as, reading};
 ghost use Rattle.reader.specs.Steps.{Decoded};
 
-use hexadecimal::Number;
 use image::{Image, Verdict};
 
 // The number of the line that begins at byte at.
-fn line_at(bytes: &[u8], at: usize) -> Number
+#[tactic(auto, using(lines::proofs::Lines::line_laws))]
+fn line_at(bytes: &[u8], at: usize) -> Option<u64>
     requires { at ≤ length bytes.now }
     ensures { result ≡ line_at bytes.now at }
 {
-    if bytes.len() - at < 17 {
-        return Number::Malformed;
-    }
-    if bytes[at + 16] != 0x0a {
-        return Number::Malformed;
+    if bytes.len() - at < 17 || bytes[at + 16] != b'\n' {
+        return None;
     }
     hexadecimal::number_at(bytes, at, 16)
 }
@@ -28,17 +25,13 @@ fn line_at(bytes: &[u8], at: usize) -> Number
 fn decode_lines(bytes: &[u8], words: &mut [u64]) -> usize
     ensures { Decoded bytes.now words.new result }
 {
-    let mut i: usize = 0;
-    let mut at: usize = 0;
-    while i < words.len() {
-        let Number::Is(x) = line_at(bytes, at) else {
+    for (i, word) in words.iter_mut().enumerate() {
+        let Some(x) = line_at(bytes, 17 * i) else {
             return i;
         };
-        words[i] = x;
-        i = i + 1;
-        at = at + 17;
+        *word = x;
     }
-    i
+    words.len()
 }
 
 // The judge's verdict over the lines read, where bytes are left after them.
@@ -62,11 +55,7 @@ fn copy(from: &[u64], to: &mut [u64])
     requires { length from.now ≤ length to.old }
     ensures { to.new ≡ sets to.old 0 from.now }
 {
-    let mut i: usize = 0;
-    while i < from.len() {
-        to[i] = from[i];
-        i = i + 1;
-    }
+    to[..from.len()].copy_from_slice(from);
 }
 
 // The lines go to the table's start where the verdict is 0.

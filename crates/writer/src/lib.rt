@@ -14,7 +14,7 @@ fn put_line(f: u64, bytes: &mut [u8], at: usize)
     ensures { bytes.new ≡ sets bytes.old at (line f) }
 {
     hexadecimal::write_at(f, 16, bytes, at);
-    bytes[at + 16] = 0x0a;
+    bytes[at + 16] = b'\n';
 }
 
 // Writes the lines of a table.
@@ -22,10 +22,8 @@ fn put_lines(table: &[u64], bytes: &mut [u8])
     requires { 17 * length table.now ≤ length bytes.old }
     ensures { bytes.new ≡ sets bytes.old 0 (text table.now) }
 {
-    let mut i: usize = 0;
-    while i < table.len() {
-        put_line(table[i], bytes, 17 * i);
-        i = i + 1;
+    for (i, &frame) in table.iter().enumerate() {
+        put_line(frame, bytes, 17 * i);
     }
 }
 
