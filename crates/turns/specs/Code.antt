@@ -42,8 +42,15 @@ code n l ps cs = record { now = n; lists = l; places = ps; cells = cs }
 abbrev pub lists_of : State → Lists
 lists_of s = lists s.pends.now s.waits.now s.waiters.now
 
+abbrev pub kept_of : Now → State → Kept
+kept_of n s = kept n.marks (lists_of s)
+
 abbrev pub code_of : Now → State → (cells : List ℕ) → Code
 code_of n s cs = code n (lists_of s) s.places.now cs
+
+-- there are as many threads as waits for a time
+abbrev pub threads_of : State → ℕ
+threads_of s = length s.waits.now
 
 -- the single numbers: at another place; with other marks there; with so much left of the budget
 abbrev pub goes_to : Control → Now → Now
@@ -164,6 +171,9 @@ stopped k x cs = record { came = Err k; kept = x; cells = cs }
 abbrev pub did_by : Result Done ℕ → (m : Marks) → Lists → List ℕ → Did
 did_by (Ok d) m l cs = did d.came (kept d.marks l) cs
 did_by (Err k) m l cs = stopped k (kept m l) cs
+
+abbrev pub did_of : Result Done ℕ → Now → State → List ℕ → Did
+did_of r n s cs = did_by r n.marks (lists_of s) cs
 
 -- is the phase over
 abbrev pub is_closed : Stage → Bool

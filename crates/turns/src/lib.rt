@@ -2,8 +2,8 @@
 // state, and proofs/ that it is some steps of the machine.
 #![tactic(auto)]
 
-ghost use Rattle.std.specs.Prelude.{◌≡◌, length};
-ghost use Rattle.turns.specs.Code.{goes_to, marks_to};
+ghost use Rattle.std.specs.Prelude.{◌≡◌};
+ghost use Rattle.turns.specs.Code.{threads_of, goes_to, marks_to};
 
 use marks::Marks;
 
@@ -98,9 +98,9 @@ impl Now {
 }
 
 impl State<'_> {
-    // There are as many threads as waits for a time.
+    // The threads.
     pub fn threads(&self) -> usize
-        ensures { result ≡ length self.now.waits.now }
+        ensures { result ≡ threads_of self.now }
     {
         self.waits.len()
     }
