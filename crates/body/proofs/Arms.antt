@@ -1,29 +1,14 @@
 -- The definitions of a body's turn, each law as an arm of the code has it. Assumes nothing.
-use Prim.Native.Nat.{ℕ, ◌+◌, ◌-◌, ◌≤◌, ◌<◌}
+use Prim.Native.Nat.{ℕ, ◌+◌, ◌<◌}
 use mathlib.Core.Path.{◌≡◌}
-use mathlib.Core.Bool.{Bool, true, false}
 use mathlib.Core.List.{List}
 use native.Mathlib.Omega.{arith}
-use borrow.Author.Tests.{lt-ltb, le-ltb, le-leb, lt-leb}
-use lib.ListN.{length, get_or, set}
-use Rattle.frame.specs.declared.Frame.{Frame}
-use Rattle.frame.specs.Fields.{fields}
-use Rattle.frame.specs.Ops.{meaning_of}
-use Rattle.marks.specs.declared.Marks.{Marks}
-use Rattle.marks.specs.Marks.{may_run}
+use lib.ListN.{length}
 use Rattle.plain.specs.declared.End.{End}
-use Rattle.plain.specs.declared.End.TheVariants.{Ended, Left, Stopped}
+use Rattle.plain.specs.declared.End.TheVariants.{Left}
 use Rattle.plain.specs.declared.Ran.{Ran}
 use Rattle.plain.specs.Plain.{run_plain}
 use Rattle.plain.specs.Laws.{Inside, left_inside}
-use Rattle.turns.specs.declared.Control.{Control}
-use Rattle.turns.specs.declared.Control.TheVariants.{Runs, UpdatePhase, Evaluation, Over}
-use Rattle.turns.specs.declared.Now.{Now}
-use Rattle.turns.specs.declared.Obeyed.{Obeyed}
-use Rattle.turns.specs.declared.Obeyed.TheVariants.{Goes, Waits, Took, Begins}
-use Rattle.turns.specs.declared.Done.{Done}
-use Rattle.shows.specs.Shows.{Lists, kept}
-use Rattle.turns.specs.Code.{goes_to, marks_to, ends_to, did, code, obeyed, stays_at, next_input, with_left, completed_to, completed_at, completed, ran_to}
 
 -- where an instruction that is left stands
 module _ {t : List ℕ} {base p : ℕ} {e : End} (h : e ≡ Left → Inside t base 0 p) where

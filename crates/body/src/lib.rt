@@ -2,12 +2,12 @@
 #![tactic(auto)]
 
 ghost use Rattle.std.specs.Prelude.{◌≡◌, ◌+◌, ◌-◌, ◌<◌, Ok, length, get_or, set};
-ghost use Rattle.frame.specs.Fields.{fields};
 ghost use Rattle.frame.specs.Ops.{meaning_of};
 ghost use Rattle.plain.specs.Plain.{run_plain};
 ghost use Rattle.plain.specs.Laws.{Inside};
-ghost use Rattle.turns.specs.Code.{code_of, kept_of, threads_of, obeyed, stays_at, next_input, completed_to, completed, ran_to, body_run_of};
+ghost use Rattle.turns.specs.Code.{lists_of, code_of, kept_of, threads_of, obeyed, stays_at, next_input, completed_to, completed, ran_to, body_run_of};
 
+use frame::Frame;
 use marks::Marks;
 use plain::{End, Ran};
 use turns::{Control, Done, Job, Now, Obeyed, Stage, State};
@@ -59,17 +59,24 @@ fn complete(done: Done, n: Now, count: usize, b: usize, p: usize, threads: usize
     }
 }
 
-// The instruction at place p of body b, which stands in a line of the table and is not plain: it is completed, or stops the run.
-fn obey_at(job: Job<'_>, line: usize, b: usize, p: usize, n: Now, s: &mut State<'_>, cells: &mut [u32]) -> Now
-    requires { (line < length job.table.now) × (p < 1024) }
-    ensures { code_of result s.new cells.new ≡ completed (threads_of s.old) (length job.inputs.now) b p (obeyed (threads_of s.old) b (fields (get_or job.table.now line 0)) n job.inputs.now (kept_of n s.old) cells.old (meaning_of (fields (get_or job.table.now line 0)).op)) n s.old.places.now }
+// The instruction f at place p of body b, which is not plain: it is completed, or stops the run.
+fn obey_at(
+    f: Frame,
+    inputs: &[u32],
+    b: usize,
+    p: usize,
+    n: Now,
+    s: &mut State<'_>,
+    cells: &mut [u32],
+) -> Now
+    requires { p < 1024 }
+    ensures { code_of result s.new cells.new ≡ completed (threads_of s.old) (length inputs.now) b p (obeyed (threads_of s.old) b f n inputs.now (kept_of n s.old) cells.old (meaning_of f.op)) n s.old.places.now }
 {
-    let f = frame::decode(job.table[line]);
     let threads = s.threads();
-    match obey::obey(f, b, n, job.inputs, s, cells) {
+    match obey::obey(f, b, n, inputs, s, cells) {
         Ok(done) => {
             places::put_place(s.places, b, p + 1);
-            complete(done, n, job.inputs.len(), b, p, threads)
+            complete(done, n, inputs.len(), b, p, threads)
         }
         Err(k) => n.to(Control::Over(k, b, p)),
     }
@@ -77,21 +84,45 @@ fn obey_at(job: Job<'_>, line: usize, b: usize, p: usize, n: Now, s: &mut State<
 
 // What ended the plain instructions of body b, whose first instruction stands at line base.
 #[tactic(auto, using(crate::proofs::Arms::fits_left, crate::proofs::Arms::line_left))]
-fn after_plain(ran: Ran, job: Job<'_>, base: usize, b: usize, n: Now, s: &mut State<'_>, cells: &mut [u32]) -> Now
-    requires { ran.end ≡ End.Left → Inside job.table.now base 0 ran.place }
-    ensures { code_of result s.new cells.new ≡ ran_to job.table.now job.inputs.now (threads_of s.old) base b ran.end ran.place n (lists_of s.old) s.old.places.now cells.old }
+fn after_plain(
+    ran: Ran,
+    job: &Job<'_>,
+    base: usize,
+    b: usize,
+    n: Now,
+    s: &mut State<'_>,
+    cells: &mut [u32],
+) -> Now
+    requires { ran.end ≡ End.Left → Inside job.now.table.now base 0 ran.place }
+    ensures { code_of result s.new cells.new ≡ ran_to job.now.table.now job.now.inputs.now (threads_of s.old) base b ran.end ran.place n (lists_of s.old) s.old.places.now cells.old }
 {
     let p = ran.place;
     match ran.end {
         End::Ended => moves::end_body(n, b, s.threads()),
         End::Stopped(k) => n.to(Control::Over(k, b, p)),
-        End::Left => obey_at(job, base + p, b, p, n, s, cells),
+        End::Left => obey_at(
+            frame::decode(job.table[base + p]),
+            job.inputs,
+            b,
+            p,
+            n,
+            s,
+            cells,
+        ),
     }
 }
 
 // The plain instructions of body b, whose first instruction stands at line base, from the body's place on.
-fn run_from_place(job: Job<'_>, base: usize, b: usize, left: u32, places: &mut [usize], cells: &mut [u32]) -> Ran
-    ensures { (record { ran = result; cells = cells.new } ≡ run_plain left job.table.now base (get_or job.firsts.now (b + 1) 0 - base) (get_or places.old b 0) cells.old) × (places.new ≡ set places.old b result.place) }
+fn run_from_place(
+    job: &Job<'_>,
+    base: usize,
+    b: usize,
+    left: u32,
+    places: &mut [usize],
+    cells: &mut [u32],
+) -> Ran
+    ensures value { record { ran = result; cells = cells.new } ≡ run_plain left job.now.table.now base (get_or job.now.firsts.now (b + 1) 0 - base) (get_or places.old b 0) cells.old }
+    ensures places_after { places.new ≡ set places.old b result.place }
 {
     let len = places::distance(base, places::place_after(job.firsts, b));
     let place = places::place_of(places, b);
@@ -101,12 +132,15 @@ fn run_from_place(job: Job<'_>, base: usize, b: usize, left: u32, places: &mut [
 }
 
 // Body b runs: its plain instructions, and what ended them.
-#[tactic(auto, using(crate::proofs::Arms::left_there), unfolding(turns::specs::Code::body_run))]
-pub fn run(job: Job<'_>, b: usize, n: Now, s: &mut State<'_>, cells: &mut [u32]) -> Now
-    ensures { code_of result s.new cells.new ≡ body_run_of job (threads_of s.old) b (code_of n s.old cells.old) }
+#[tactic(auto, unfolding(turns::specs::Code::body_run))]
+pub fn run(job: &Job<'_>, b: usize, n: Now, s: &mut State<'_>, cells: &mut [u32]) -> Now
+    ensures { code_of result s.new cells.new ≡ body_run_of job.now (threads_of s.old) b (code_of n s.old cells.old) }
 {
     let base = places::place_of(job.firsts, b);
     let ran = run_from_place(job, base, b, n.left, s.places, cells);
-    let n = Now { left: ran.left, ..n };
+    let n = Now {
+        left: ran.left,
+        ..n
+    };
     after_plain(ran, job, base, b, n, s, cells)
 }
