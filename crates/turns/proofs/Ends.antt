@@ -24,7 +24,7 @@ use Rattle.shows.proofs.Asks.{not_ended_is}
 use Rattle.shows.proofs.Serves.{first_shows}
 use Rattle.turns.specs.declared.Control.{Control}
 use Rattle.turns.specs.declared.Control.TheVariants.{Runs, UpdatePhase, DeltaPhase, Turn, Evaluation, TimePhase, Over}
-use Rattle.turns.specs.Stands.{place_of, limit_of, stage_of, body_of}
+use Rattle.turns.specs.Stands.{place_of, body_of}
 use Rattle.turns.specs.Code.{Code, code, turn, turns, answer_as, answer_from, answered, told, first_now, first_ran, first_lists}
 use Rattle.turns.proofs.Turns.{StandsAt, Reaches, Given, plain_turn, turn_follows}
 use Rattle.turns.proofs.Bodies.{PlainRan}
@@ -122,7 +122,7 @@ abbrev pub first_code : Job → (rest : List ℕ) → Code
 first_code j rest = code (first_now (threads j.table) j.budget) (first_lists (threads j.table) (events j.table)) (replicate (bodies j.table) 0) (replicate (cells j.table) 0 ++ rest)
 
 pub first_stands : (j : Job) (rest : List ℕ) → (judged j.table).number ≡ 0 → StandsAt j rest (init j) (first_code j rest)
-unfolding kernel limit_of stage_of body_of
+unfolding kernel body_of
 first_stands j rest good = record {
   shows = first_shows j.table (few_all j.table good);
   counts = record {

@@ -35,6 +35,8 @@ use Rattle.plain.specs.Plain.{is_plain, Out, able, plain, run_plain}
 use Rattle.turns.specs.declared.Control.{Control}
 use Rattle.turns.specs.declared.Control.TheVariants.{Runs, UpdatePhase, DeltaPhase, Turn, Evaluation, TimePhase, Over}
 use Rattle.turns.specs.declared.Now.{Now}
+use Rattle.turns.specs.declared.Stage.{Stage}
+use Rattle.turns.specs.declared.Stage.TheVariants.{Before, During, Quiet, Limited}
 use Rattle.turns.specs.Stands.{body_of, place_of, stage_of, Stands}
 use Rattle.turns.specs.Code.{Code, code, goes_to, marks_to, with_left, dispatch, chosen_by, evaluated, when_idle, phase_number, ends_to, ran_to, after_plain, body_run, settled_from, settled, settled_in, turn_from, turn}
 use Rattle.turns.proofs.Moves.{goes_to_lem, evaluates, turns, serves_delta, enters_update, times}
@@ -71,12 +73,11 @@ module _ (j : Job) (rest : List ℕ) (s : State) (b : ℕ) (n : Now) (l : Lists)
   abbrev m : Machine
   m = s.machine
 
-  number_said : (v : ℕ) → phase_number v ≡ end_number j s (stage_of v)
-  unfolding stage_of
-  number_said zero = refl
-  number_said (suc zero) = refl
-  number_said (suc (suc zero)) = refl
-  number_said (suc (suc (suc v))) = refl
+  number_said : (v : Stage) → phase_number v ≡ end_number j s (stage_of v)
+  number_said Before = refl
+  number_said During = refl
+  number_said Quiet = refl
+  number_said Limited = refl
 
   main_ends : m.control ≡ running main → due j s main ≡ false → Stands j rest (step j s) (goes_to (Over (phase_number n.stage) 0xff 0) n) l ps cs
   main_ends e d =
