@@ -23,7 +23,7 @@ fn stay(b: usize, threads: usize, marks: Marks) -> Control
     if threads < b {
         return Control::Runs(b);
     }
-    if marks::runnable(marks, b - 1) {
+    if marks.is_runnable(b - 1) {
         return Control::Runs(b);
     }
     Control::Evaluation
@@ -117,19 +117,19 @@ fn complete(
     match came {
         Obeyed::Stops(k) => turns::to(n, Control::Over(k, b, p)),
         Obeyed::Goes => {
-            places::put_place(places, b, p + 1);
+            slots::put(places, b, p + 1);
             counted(n, stay(b, threads, marks), marks)
         }
         Obeyed::Waits => {
-            places::put_place(places, b, p + 1);
+            slots::put(places, b, p + 1);
             counted(n, Control::Evaluation, marks)
         }
         Obeyed::Took => {
-            places::put_place(places, b, p + 1);
+            slots::put(places, b, p + 1);
             counted_input(n, b, count)
         }
         Obeyed::Begins(x) => {
-            places::put_place(places, b, p + 1);
+            slots::put(places, b, p + 1);
             counted_start(n, x)
         }
     }
@@ -229,8 +229,8 @@ fn run_from_place(
     ensures { (record { ran = result; cells = cells.new } ≡ run_plain left table.now base (get_or firsts.now (b + 1) 0 - base) (get_or places.old b 0) cells.old) × (places.new ≡ set places.old b result.place) }
 {
     let len = places::distance(base, places::place_after(firsts, b));
-    let ran = plain::run_plain(table, base, len, places::place_of(places, b), left, cells);
-    places::put_place(places, b, ran.place);
+    let ran = plain::run_plain(table, base, len, slots::get_or(places, b, 0), left, cells);
+    slots::put(places, b, ran.place);
     ran
 }
 
@@ -250,7 +250,7 @@ pub fn run(
 ) -> Now
     ensures { code result (lists pends.new waits.new waiters.new) places.new cells.new ≡ body_run table.now inputs.now firsts.now threads b (code n (lists pends.old waits.old waiters.old) places.old cells.old) }
 {
-    let base = places::place_of(firsts, b);
+    let base = slots::get_or(firsts, b, 0);
     let ran = run_from_place(table, base, firsts, b, n.left, places, cells);
     let m = with_left(n, ran.left);
     after_plain(

@@ -14,8 +14,7 @@ use Rattle.kernel.proofs.Search.{nth_some, nth_past, nth_at}
 use Rattle.sets.specs.Sets.{has}
 use Rattle.sets.specs.Laws.{not_full}
 use Rattle.marks.specs.declared.Marks.{Marks}
-use Rattle.marks.specs.declared.Found.{Found as FoundCode}
-use Rattle.marks.specs.declared.Found.TheVariants.{At as FoundAt, Nothing as FoundNothing}
+use Rattle.std.proofs.Common.{Option, Some, None}
 use Rattle.marks.specs.Marks.{found_of, idle, may_run, any_runs, first_asked}
 use Rattle.turns.specs.declared.Control.{Control}
 use Rattle.turns.specs.declared.Control.TheVariants.{Runs, UpdatePhase, DeltaPhase, Turn, Evaluation, TimePhase, Over}
@@ -87,11 +86,11 @@ module _ (choices : List ℕ) (n : Now) (r : Choice) (h : r ≡ choice_by (nth c
 pub ruleset evaluated_laws = (evaluated_chosen, evaluated_refused)
 
 -- Where evaluation leads
-module _ (m : Marks) (r : FoundCode) (h : found_of r ≡ first_asked m) where
-  pub idle_none : r ≡ FoundNothing → DeltaPhase ≡ when_idle (first_asked m)
+module _ (m : Marks) (r : Option ℕ) (h : found_of r ≡ first_asked m) where
+  pub idle_none : r ≡ None → DeltaPhase ≡ when_idle (first_asked m)
   idle_none e = rw (sym h ∙ ap found_of e)
 
-  pub idle_some : (u : ℕ) → r ≡ FoundAt u → UpdatePhase ≡ when_idle (first_asked m)
+  pub idle_some : (u : ℕ) → r ≡ Some u → UpdatePhase ≡ when_idle (first_asked m)
   idle_some u e = rw (sym h ∙ ap found_of e)
 
 -- Evaluation, where the machine stands there

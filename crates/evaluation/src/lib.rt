@@ -6,7 +6,7 @@ ghost use Rattle.kernel.specs.Search.{nth};
 ghost use Rattle.marks.specs.Marks.{first_asked};
 ghost use Rattle.turns.specs.Code.{choice_by, idle_or, evaluated, when_idle, settled};
 
-use marks::{Found, Marks};
+use marks::Marks;
 use turns::{Choice, Control, Now};
 
 // The thread that a choice names.
@@ -24,7 +24,7 @@ fn next_choice(choices: &[u8], at: usize, marks: Marks) -> Choice
         return Choice::Refused(20);
     }
     let c = choices[at];
-    if marks::runnable(marks, named(c)) {
+    if marks.is_runnable(named(c)) {
         return Choice::Thread(c);
     }
     Choice::Refused(21)
@@ -35,7 +35,7 @@ fn idle_or(n: Now, k: u8, idle: Control) -> Now
     ensures { result ≡ idle_or k idle n }
 {
     let marks = n.marks;
-    if marks::any_runnable(marks) {
+    if marks.any_runnable() {
         return turns::to(n, Control::Over(k, 0xff, 0));
     }
     turns::to(n, idle)
@@ -68,10 +68,10 @@ fn evaluate(choices: &[u8], n: Now, idle: Control) -> Now
 fn after_evaluation(marks: Marks) -> Control
     ensures { result ≡ when_idle (first_asked marks) }
 {
-    let Found::At(_) = marks::first_requested(marks) else {
-        return Control::DeltaPhase;
-    };
-    Control::UpdatePhase
+    if marks.first_requested().is_some() {
+        return Control::UpdatePhase;
+    }
+    Control::DeltaPhase
 }
 
 // Evaluation, where the machine stands there or at the turn to it. After this it stands at neither.

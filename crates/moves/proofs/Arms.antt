@@ -5,8 +5,7 @@ use mathlib.Core.List.{List, [], map}
 use native.Mathlib.Omega.{arith}
 use borrow.Author.Tests.{lt-ltb, le-ltb, le-leb, lt-leb, eq-eqb, ne_eqb}
 use Rattle.marks.specs.declared.Marks.{Marks}
-use Rattle.dues.specs.declared.Due.{Due as DueCode}
-use Rattle.dues.specs.declared.Due.TheVariants.{At as DueAt, Nothing as DueNothing}
+use Rattle.std.proofs.Common.{Option, Some, None}
 use Rattle.dues.specs.Codes.{due_time}
 use Rattle.marks.specs.Marks.{ended_by, finished_by}
 use Rattle.dues.specs.Dues.{over_code, due_in}
@@ -25,20 +24,20 @@ module _ (n : Now) (ws : List ℕ) where
   delta_in_lem w e = ap (λ (x : List ℕ). lists [] [] x) e
 
 -- Time
-module _ (ps ws es : List ℕ) (n : Now) (r : DueCode) (h : due_time r ≡ least_of (lists ps ws es)) where
+module _ (ps ws es : List ℕ) (n : Now) (r : Option ℕ) (h : due_time r ≡ least_of (lists ps ws es)) where
   abbrev Timed : Now → Type 0
   Timed x = x ≡ timed_by (least_of (lists ps ws es)) n (lists ps ws es)
 
   abbrev Served : Lists → Type 0
   Served l = l ≡ served_by (least_of (lists ps ws es)) n (lists ps ws es)
 
-  pub timed_quiet : (x : Now) → x ≡ closed 2 n → r ≡ DueNothing → Timed x
+  pub timed_quiet : (x : Now) → x ≡ closed 2 n → r ≡ None → Timed x
   timed_quiet x y e = rw (← h, e) y
 
-  pub served_quiet : r ≡ DueNothing → Served (lists ps ws es)
+  pub served_quiet : r ≡ None → Served (lists ps ws es)
   served_quiet e = rw (← h, e)
 
-  module _ (t : ℕ) (e : r ≡ DueAt t) where
+  module _ (t : ℕ) (e : r ≡ Some t) where
     pub timed_limit : (x : Now) → x ≡ closed 3 n → n.limit < t → Timed x
     timed_limit x y g = rw (← h, e, lt-ltb n.limit t g) y
 

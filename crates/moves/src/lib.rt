@@ -5,7 +5,6 @@ ghost use Rattle.std.specs.Prelude.{◌≡◌, []};
 ghost use Rattle.shows.specs.Shows.{lists};
 ghost use Rattle.turns.specs.Code.{delta_to, delta_in, least_of, closed, moved_to, timed_by, served_by, phase_number, ends_to};
 
-use dues::Due;
 use marks::Marks;
 use turns::{Control, Now};
 
@@ -57,7 +56,7 @@ pub fn time_phase(n: Now, pends: &mut [u64], waits: &mut [u64], waiters: &mut [u
     ensures value { result ≡ timed_by (least_of (lists pends.old waits.old waiters.old)) n (lists pends.old waits.old waiters.old) }
     ensures waiters_after { lists pends.new waits.new waiters.new ≡ served_by (least_of (lists pends.old waits.old waiters.old)) n (lists pends.old waits.old waiters.old) }
 {
-    let Due::At(t) = dues::least_due(pends, waits) else {
+    let Some(t) = dues::least_due(pends, waits) else {
         return close(n, 2);
     };
     if n.limit < t as u64 {
@@ -90,11 +89,7 @@ pub fn end_body(n: Now, b: usize, threads: usize) -> Now
     }
     let marks = n.marks;
     if b <= threads {
-        return turns::to_marks(n, Control::Evaluation, marking::end(marks, b - 1));
+        return turns::to_marks(n, Control::Evaluation, marks.end(b - 1));
     }
-    turns::to_marks(
-        n,
-        Control::UpdatePhase,
-        marking::finish(marks, b - 1 - threads),
-    )
+    turns::to_marks(n, Control::UpdatePhase, marks.finish(b - 1 - threads))
 }

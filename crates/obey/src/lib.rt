@@ -13,24 +13,6 @@ use image::Image;
 use marks::Marks;
 use turns::{Done, Now, Obeyed};
 
-// A cell; past the cells it is 0.
-fn cell_at(cells: &[u32], a: usize) -> u32
-    ensures { result ≡ get_or cells.now a 0 }
-{
-    if a < cells.len() {
-        return cells[a];
-    }
-    0
-}
-
-fn put_cell(cells: &mut [u32], d: usize, x: u32)
-    ensures { cells.new ≡ set cells.old d x }
-{
-    if d < cells.len() {
-        cells[d] = x;
-    }
-}
-
 // What came of an instruction, and the marks after it.
 fn done(came: Obeyed, marks: Marks) -> Done
     ensures { result ≡ record { came = came; marks = marks } }
@@ -48,7 +30,7 @@ fn take_input(d: usize, taken: usize, marks: Marks, inputs: &[u32], cells: &mut 
     if inputs.len() <= taken {
         return done(Obeyed::Stops(19), marks);
     }
-    put_cell(cells, d, inputs[taken]);
+    slots::put(cells, d, inputs[taken]);
     done(Obeyed::Took, marks)
 }
 
@@ -192,7 +174,7 @@ fn request(b: usize, stage: u8, d: usize, marks: Marks) -> Done
     if is_past(b, stage) {
         return done(Obeyed::Stops(18), marks);
     }
-    done(Obeyed::Goes, marking::request(marks, d))
+    done(Obeyed::Goes, marks.request(d))
 }
 
 // Op 65: suspend thread d.
@@ -202,7 +184,7 @@ fn suspend(b: usize, stage: u8, d: usize, marks: Marks) -> Done
     if is_past(b, stage) {
         return done(Obeyed::Stops(18), marks);
     }
-    done(Obeyed::Goes, marking::suspend(marks, d))
+    done(Obeyed::Goes, marks.suspend(d))
 }
 
 // Op 66: resume thread d.
@@ -212,7 +194,7 @@ fn resume(b: usize, stage: u8, d: usize, marks: Marks) -> Done
     if is_past(b, stage) {
         return done(Obeyed::Stops(18), marks);
     }
-    done(Obeyed::Goes, marking::resume(marks, d))
+    done(Obeyed::Goes, marks.resume(d))
 }
 
 // Ops 67 and 68: start, once.
@@ -248,7 +230,7 @@ pub fn obey(
         0x60 => wait_event(b, d, threads, m, waiters),
         0x61 => wait_time(
             b,
-            dues::ask(n.time, cell_at(cells, a)),
+            dues::ask(n.time, slots::get_or(cells, a, 0)),
             threads,
             m,
             pends,
@@ -259,7 +241,7 @@ pub fn obey(
             b,
             n.stage,
             d,
-            dues::ask(n.time, cell_at(cells, a)),
+            dues::ask(n.time, slots::get_or(cells, a, 0)),
             m,
             pends,
             waits,

@@ -7,4 +7,4 @@ after_plain-requires c = left_there _ _ _ _ _ _ _ _ c.run_from_place-ran.ensures
 
 pub returns : goal.returns
 unfolding body_run
-returns c = rw (← c.place_of-base.ensures, ← c.run_from_place-ran.ensures.0, ← c.run_from_place-ran.ensures.1, ← c.with_left-m.ensures) c.after_plain.ensures
+returns c = rw (← c.get_or-base.ensures, ← c.run_from_place-ran.ensures.0, ← c.run_from_place-ran.ensures.1, ← c.with_left-m.ensures) c.after_plain.ensures

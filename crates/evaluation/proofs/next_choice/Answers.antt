@@ -5,8 +5,8 @@ use Rattle.evaluation.proofs.next_choice.Goals as goal
 pub returns-then-choices-at : goal.returns-then-choices-at
 returns-then-choices-at c = search (choice_laws, rules)
 
-pub returns-then-runnable : goal.returns-then-runnable
-returns-then-runnable c = search (choice_laws, rules)
+pub returns-then-is_runnable : goal.returns-then-is_runnable
+returns-then-is_runnable c = search (choice_laws, rules)
 
 pub returns : goal.returns
 returns c = search (choice_laws, rules)

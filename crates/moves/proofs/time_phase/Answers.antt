@@ -17,7 +17,7 @@ returns-then-n-t-clause-waiters_after c = search (served_limit, rules)
 pub returns-clause-value : goal.returns-clause-value
 returns-clause-value c =
     let a = c.args in
-    timed_on a.pends.now a.waits.now a.waiters.now a.n _ c.least_due.ensures _ c.in-At.is _ _ c.serve_time-served.ensures.value c.move_to.ensures c.if-n-t.false
+    timed_on a.pends.now a.waits.now a.waiters.now a.n _ c.least_due.ensures _ c.in-Some.is _ _ c.serve_time-served.ensures.value c.move_to.ensures c.if-n-t.false
 
 pub returns-clause-waiters_after : goal.returns-clause-waiters_after
 returns-clause-waiters_after c = search (served_on, rules)
