@@ -45,7 +45,7 @@ fn answer_as(n: Now, budget: u32, k: u8, b: usize, p: usize) -> Answer
         instructions: spent(budget, n.left),
         choices: (n.chosen % 0x1_0000_0000) as u32,
         inputs: (n.taken % 0x1_0000_0000) as u32,
-        threads: marks::not_ended(marks),
+        threads: marks.not_ended(),
     }
 }
 

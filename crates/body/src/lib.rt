@@ -17,7 +17,7 @@ use turns::{Control, Done, Job, Now, Obeyed, Stage, State};
 fn stay(b: usize, threads: usize, marks: Marks) -> Control
     ensures { result ≡ stays_at threads b marks }
 {
-    if 1 <= b && b <= threads && !marks::runnable(marks, b - 1) {
+    if 1 <= b && b <= threads && !marks.is_runnable(b - 1) {
         return Control::Evaluation;
     }
     Control::Runs(b)
@@ -75,7 +75,7 @@ fn obey_at(
     let threads = s.threads();
     match obey::obey(f, b, n, inputs, s, cells) {
         Ok(done) => {
-            places::put_place(s.places, b, p + 1);
+            slots::put(s.places, b, p + 1);
             complete(done, n, inputs.len(), b, p, threads)
         }
         Err(k) => n.to(Control::Over(k, b, p)),
@@ -125,9 +125,9 @@ fn run_from_place(
     ensures places_after { places.new ≡ set places.old b result.place }
 {
     let len = places::distance(base, places::place_after(job.firsts, b));
-    let place = places::place_of(places, b);
+    let place = slots::get_or(places, b, 0);
     let ran = plain::run_plain(job.table, base, len, place, left, cells);
-    places::put_place(places, b, ran.place);
+    slots::put(places, b, ran.place);
     ran
 }
 
@@ -136,7 +136,7 @@ fn run_from_place(
 pub fn run(job: &Job<'_>, b: usize, n: Now, s: &mut State<'_>, cells: &mut [u32]) -> Now
     ensures { code_of result s.new cells.new ≡ body_run_of job.now (threads_of s.old) b (code_of n s.old cells.old) }
 {
-    let base = places::place_of(job.firsts, b);
+    let base = slots::get_or(job.firsts, b, 0);
     let ran = run_from_place(job, base, b, n.left, s.places, cells);
     let n = Now {
         left: ran.left,

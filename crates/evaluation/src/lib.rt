@@ -6,7 +6,7 @@ ghost use Rattle.kernel.specs.Search.{nth};
 ghost use Rattle.marks.specs.Marks.{first_asked};
 ghost use Rattle.turns.specs.Code.{choice_by, idle_or, evaluated, when_idle, settled};
 
-use marks::{Found, Marks};
+use marks::Marks;
 use turns::{Control, Now};
 
 // What the next choice comes to while a thread is runnable.
@@ -18,7 +18,7 @@ fn next_choice(choices: &[u8], at: usize, marks: Marks) -> Result<u8, u8>
         return Err(20);
     }
     let c = choices[at];
-    if marks::runnable(marks, usize::from(c)) {
+    if marks.is_runnable(usize::from(c)) {
         return Ok(c);
     }
     Err(21)
@@ -28,7 +28,7 @@ fn next_choice(choices: &[u8], at: usize, marks: Marks) -> Result<u8, u8>
 fn idle_or(n: Now, k: u8, idle: Control) -> Now
     ensures { result ≡ idle_or k idle n }
 {
-    if marks::any_runnable(n.marks) {
+    if n.marks.any_runnable() {
         return n.to(Control::Over(k, 0xff, 0));
     }
     n.to(idle)
@@ -53,10 +53,10 @@ fn evaluate(choices: &[u8], n: Now, idle: Control) -> Now
 fn after_evaluation(marks: Marks) -> Control
     ensures { result ≡ when_idle (first_asked marks) }
 {
-    let Found::At(_) = marks::first_requested(marks) else {
-        return Control::DeltaPhase;
-    };
-    Control::UpdatePhase
+    if marks.first_requested().is_some() {
+        return Control::UpdatePhase;
+    }
+    Control::DeltaPhase
 }
 
 // Evaluation, where the machine stands there or at the turn to it. After this it stands at neither.

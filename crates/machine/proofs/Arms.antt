@@ -12,8 +12,7 @@ use Rattle.kernel.specs.Search.{none, found}
 use Rattle.sets.specs.Sets.{least_of as least_in}
 use Rattle.sets.specs.Laws.{least_in_lem}
 use Rattle.marks.specs.declared.Marks.{Marks}
-use Rattle.marks.specs.declared.Found.{Found as FoundCode}
-use Rattle.marks.specs.declared.Found.TheVariants.{At as FoundAt, Nothing as FoundNothing}
+use Rattle.std.proofs.Common.{Option, Some, None}
 use Rattle.marks.specs.Marks.{found_of, first_asked}
 use Rattle.turns.specs.declared.Control.{Control}
 use Rattle.turns.specs.declared.Control.TheVariants.{Runs, UpdatePhase, DeltaPhase, Turn, Evaluation, TimePhase, Over}
@@ -35,20 +34,20 @@ asked_few m u e = by (eqb (m.requested % 4294967296) 0) refl e
         let q : least_in m.requested ≡ u = cc in
         omega (arith, (least_in_lem m.requested (eqb-false (m.requested % 4294967296) 0 g)).0)
 
-module _ (t : ℕ) (ps : List ℕ) (n : Now) (r : FoundCode) (h : found_of r ≡ first_asked n.marks) where
-  pub enters_none : (x : Now) → x ≡ goes_to DeltaPhase n → r ≡ FoundNothing → x ≡ enters_to t (first_asked n.marks) n
+module _ (t : ℕ) (ps : List ℕ) (n : Now) (r : Option ℕ) (h : found_of r ≡ first_asked n.marks) where
+  pub enters_none : (x : Now) → x ≡ goes_to DeltaPhase n → r ≡ None → x ≡ enters_to t (first_asked n.marks) n
   enters_none x y e = rw (sym h ∙ ap found_of e) y
 
-  pub enters_no_place : r ≡ FoundNothing → ps ≡ enters_at t (first_asked n.marks) ps
+  pub enters_no_place : r ≡ None → ps ≡ enters_at t (first_asked n.marks) ps
   enters_no_place e = rw (sym h ∙ ap found_of e)
 
-  pub enters_some : (x : Now) (u : ℕ) → x ≡ goes_to (Runs (t + 1 + u)) n → r ≡ FoundAt u → x ≡ enters_to t (first_asked n.marks) n
+  pub enters_some : (x : Now) (u : ℕ) → x ≡ goes_to (Runs (t + 1 + u)) n → r ≡ Some u → x ≡ enters_to t (first_asked n.marks) n
   enters_some x u y e = rw (sym h ∙ ap found_of e) y
 
-  pub enters_place : (u : ℕ) (qs : List ℕ) → r ≡ FoundAt u → qs ≡ set ps (t + 1 + u) 0 → qs ≡ enters_at t (first_asked n.marks) ps
+  pub enters_place : (u : ℕ) (qs : List ℕ) → r ≡ Some u → qs ≡ set ps (t + 1 + u) 0 → qs ≡ enters_at t (first_asked n.marks) ps
   enters_place u qs e q = rw (sym h ∙ ap found_of e) q
 
-  pub enters_fits : (u : ℕ) → r ≡ FoundAt u → t < 2 ^ 63 → t + 1 + u < 2 ^ 64
+  pub enters_fits : (u : ℕ) → r ≡ Some u → t < 2 ^ 63 → t + 1 + u < 2 ^ 64
   enters_fits u e a = omega (arith, asked_few n.marks u (sym h ∙ ap found_of e))
 
 -- where it stands after evaluation it does nothing, or has never to

@@ -6,7 +6,6 @@ ghost use Rattle.marks.specs.Marks.{first_asked};
 ghost use Rattle.shows.specs.Shows.{lists};
 ghost use Rattle.turns.specs.Code.{code, enters_to, enters_at, turn, is_over, turns};
 
-use marks::Found;
 use turns::{Control, Now};
 
 // The update phase: the first requested update runs from its first instruction.
@@ -15,11 +14,11 @@ fn update_phase(n: Now, threads: usize, places: &mut [usize]) -> Now
     ensures { (result ≡ enters_to threads (first_asked n.marks) n) × (places.new ≡ enters_at threads (first_asked n.marks) places.old) }
 {
     let marks = n.marks;
-    let Found::At(u) = marks::first_requested(marks) else {
+    let Some(u) = marks.first_requested() else {
         return turns::to(n, Control::DeltaPhase);
     };
     let b = threads + 1 + u;
-    places::put_place(places, b, 0);
+    slots::put(places, b, 0);
     turns::to(n, Control::Runs(b))
 }
 

@@ -6,7 +6,6 @@ ghost use Rattle.dues.specs.Codes.{due_time};
 ghost use Rattle.shows.specs.Shows.{lists};
 ghost use Rattle.turns.specs.Code.{lists_of, delta_to, delta_in, least_of, is_beyond, timed_by, served_by, phase_number, ends_to};
 
-use dues::Due;
 use turns::{Control, Now, Stage, State};
 
 // The delta phase: all delta work is done together.
@@ -19,7 +18,7 @@ pub fn delta_phase(n: Now, waiters: &mut [u32]) -> Now
 }
 
 // The least due time.
-fn least_due(s: &State<'_>) -> Due
+fn least_due(s: &State<'_>) -> Option<u32>
     ensures { due_time result ≡ least_of (lists_of s.now) }
 {
     dues::least_due(s.pends, s.waits)
@@ -31,7 +30,7 @@ pub fn time_phase(n: Now, s: &mut State<'_>) -> Now
     ensures lists_after { lists_of s.new ≡ served_by (least_of (lists_of s.old)) n (lists_of s.old) }
     ensures places_stay { s.new.places.now ≡ s.old.places.now }
 {
-    let Due::At(t) = least_due(s) else {
+    let Some(t) = least_due(s) else {
         return Now {
             control: Control::Runs(0),
             stage: Stage::Quiet,
@@ -74,10 +73,7 @@ pub fn end_body(n: Now, b: usize, threads: usize) -> Now
         return n.to(Control::Over(end_number(n.stage), 0xff, 0));
     }
     if b <= threads {
-        return n.to_marks(Control::Evaluation, marking::end(n.marks, b - 1));
+        return n.to_marks(Control::Evaluation, n.marks.end(b - 1));
     }
-    n.to_marks(
-        Control::UpdatePhase,
-        marking::finish(n.marks, b - 1 - threads),
-    )
+    n.to_marks(Control::UpdatePhase, n.marks.finish(b - 1 - threads))
 }

@@ -13,24 +13,6 @@ use image::Image;
 use marks::Marks;
 use turns::{Done, Now, Obeyed, Stage, State};
 
-// A cell; past the cells it is 0.
-fn cell_at(cells: &[u32], a: usize) -> u32
-    ensures { result ≡ get_or cells.now a 0 }
-{
-    if a < cells.len() {
-        return cells[a];
-    }
-    0
-}
-
-fn put_cell(cells: &mut [u32], d: usize, x: u32)
-    ensures { cells.new ≡ set cells.old d x }
-{
-    if d < cells.len() {
-        cells[d] = x;
-    }
-}
-
 // What came of an instruction that goes on, and the marks after it.
 fn goes(marks: Marks) -> Done
     ensures { result ≡ record { came = Obeyed.Goes; marks = marks } }
@@ -167,7 +149,7 @@ pub fn obey(
     let m = n.marks;
     match f.op {
         0x03 => {
-            put_cell(cells, d, input_at(inputs, n.taken)?);
+            slots::put(cells, d, input_at(inputs, n.taken)?);
             Ok(Done {
                 came: Obeyed::Took,
                 marks: m,
@@ -175,7 +157,7 @@ pub fn obey(
         }
         0x60 => Ok(wait_event(b, d, m, s)),
         0x61 => {
-            let q = dues::ask(n.time, cell_at(cells, a));
+            let q = dues::ask(n.time, slots::get_or(cells, a, 0));
             has_room(true, q, s)?;
             Ok(wait_time(b, q, m, s))
         }
@@ -185,21 +167,21 @@ pub fn obey(
         }
         0x63 => {
             may_ask(b, n.stage)?;
-            let q = dues::ask(n.time, cell_at(cells, a));
+            let q = dues::ask(n.time, slots::get_or(cells, a, 0));
             has_room(adds_time(m, d, s), q, s)?;
             Ok(goes(waits::notify_after(m, s.pends, d, q)))
         }
         0x64 => {
             may_ask(b, n.stage)?;
-            Ok(goes(marking::request(m, d)))
+            Ok(goes(m.request(d)))
         }
         0x65 => {
             may_ask(b, n.stage)?;
-            Ok(goes(marking::suspend(m, d)))
+            Ok(goes(m.suspend(d)))
         }
         0x66 => {
             may_ask(b, n.stage)?;
-            Ok(goes(marking::resume(m, d)))
+            Ok(goes(m.resume(d)))
         }
         0x67 => {
             may_begin(n.stage)?;

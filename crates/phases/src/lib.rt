@@ -27,15 +27,13 @@ pub fn serve_delta(m: Marks, waiters: &mut [u32]) -> Marks
     ensures value { result ≡ served_delta waiters.old m }
     ensures waiters_after { waiters.new ≡ cleared_by m.pending waiters.old }
 {
-    let waiting = free_all(sets::minus(m.waiting, m.delta), m.pending, waiters);
     Marks {
-        waiting: waiting,
+        waiting: free_all(sets::minus(m.waiting, m.delta), m.pending, waiters),
         delta: 0,
         suspended: sets::minus(m.suspended, m.resuming),
         resuming: 0,
-        ended: m.ended,
-        requested: m.requested,
         pending: 0,
+        ..m
     }
 }
 
@@ -54,6 +52,8 @@ pub fn serve_time(
 {
     let threads = dues::take_due(waits, q);
     let events = dues::take_due(pends, q);
-    let still = free_all(sets::minus(m.waiting, threads), events, waiters);
-    marking::with_waiting(m, still)
+    Marks {
+        waiting: free_all(sets::minus(m.waiting, threads), events, waiters),
+        ..m
+    }
 }

@@ -8,16 +8,6 @@ use effect::Eff;
 use frame::Frame;
 use image::Image;
 
-// A cell; past the cells it is 0.
-fn cell(cells: &[u32], n: usize) -> u32
-    ensures { result ≡ get_or cells.now n 0 }
-{
-    if n < cells.len() {
-        return cells[n];
-    }
-    0
-}
-
 // A cell's value takes a place's type; every one fits.
 fn wide(x: u32) -> usize
     ensures { (result ≡ x) × (result < 4294967296) }
@@ -33,7 +23,7 @@ fn load_of(i: Frame, v: u32, cells: &[u32]) -> Eff
     if i.b as usize <= x {
         return Eff::Stop(16);
     }
-    Eff::Put(i.d as usize, cell(cells, i.imm as usize + x))
+    Eff::Put(i.d as usize, slots::get_or(cells, i.imm as usize + x, 0))
 }
 
 fn store_of(i: Frame, v: u32, cells: &[u32]) -> Eff
@@ -43,7 +33,7 @@ fn store_of(i: Frame, v: u32, cells: &[u32]) -> Eff
     if i.b as usize <= x {
         return Eff::Stop(16);
     }
-    Eff::Put(i.imm as usize + x, cell(cells, i.d as usize))
+    Eff::Put(i.imm as usize + x, slots::get_or(cells, i.d as usize, 0))
 }
 
 // Ops 50 and 51: on where the cell is not 0, else the run stops with 12 or 13.
@@ -114,14 +104,6 @@ pub struct Ran {
     pub left: u32,
 }
 
-fn put_cell(cells: &mut [u32], at: usize, v: u32)
-    ensures { cells.new ≡ set cells.old at v }
-{
-    if at < cells.len() {
-        cells[at] = v;
-    }
-}
-
 // The loop itself, on the frames of a body.
 fn run_body(body: &[u64], from: usize, budget: u32, cells: &mut [u32]) -> Ran
     requires { (length body.now ≤ 1024) × (256 ≤ length cells.old) }
@@ -141,7 +123,7 @@ fn run_body(body: &[u64], from: usize, budget: u32, cells: &mut [u32]) -> Ran
         let e = effect_of(i, &*cells);
         match e {
             Eff::Put(at, v) => {
-                put_cell(cells, at, v);
+                slots::put(cells, at, v);
                 place = place + 1;
             }
             Eff::Next => {

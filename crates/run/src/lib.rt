@@ -13,6 +13,7 @@ ghost use Rattle.kernel.specs.Run.{runs, asked as asked_for};
 
 use answer::Answer;
 use image::Image;
+use marks::Marks;
 use turns::{Control, Now};
 
 // The lines of the bodies' first instructions, and the line past the last.
@@ -46,7 +47,7 @@ fn zero_cells(cells: &mut [u32], n: usize)
 fn first_now(threads: usize, budget: u32) -> Now
     ensures { result ≡ first_now threads budget }
 {
-    let marks = marks::first_marks(threads);
+    let marks = Marks::new(threads);
     Now {
         control: Control::Runs(0),
         time: 0,
@@ -79,10 +80,10 @@ fn start(
 ) -> Now
     ensures { (result ≡ first_now threads (first_ran table.now firsts.now budget cells.old).ran.left) × (places.new ≡ set places.old 0 (first_ran table.now firsts.now budget cells.old).ran.place) × (cells.new ≡ (first_ran table.now firsts.now budget cells.old).cells) }
 {
-    let base = places::place_of(firsts, 0);
+    let base = slots::get_or(firsts, 0, 0);
     let len = places::distance(base, places::place_after(firsts, 0));
     let ran = plain::run_plain(table, base, len, 0, budget, cells);
-    places::put_place(places, 0, ran.place);
+    slots::put(places, 0, ran.place);
     first_now(threads, ran.left)
 }
 

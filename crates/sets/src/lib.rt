@@ -4,16 +4,15 @@
 ghost use Rattle.std.specs.Prelude.{◌≡◌};
 ghost use Rattle.sets.specs.Sets.{has, single, join, minus, with, without, below, least_of};
 
+#[tactic(auto, using(crate::specs::Laws::has_past, crate::proofs::Shifts::tested))]
 pub fn has(s: u32, i: usize) -> bool
     ensures { result ≡ has s i }
 {
-    if 32 <= i {
-        return false;
-    }
-    s >> (i as u32) & 1 == 1
+    i < 32 && s >> (i as u32) & 1 == 1
 }
 
 // The set of i alone, empty from 32 on: no shift by the whole width.
+#[tactic(auto, using(crate::proofs::Shifts::single_in, crate::proofs::Shifts::single_past))]
 fn single(i: usize) -> u32
     ensures { result ≡ single i }
 {
@@ -23,24 +22,28 @@ fn single(i: usize) -> u32
     1u32 << (i as u32)
 }
 
+#[tactic(auto, unfolding(crate::specs::Sets::join))]
 pub fn join(a: u32, b: u32) -> u32
     ensures { result ≡ join a b }
 {
     a | b
 }
 
+#[tactic(auto, unfolding(crate::specs::Sets::minus))]
 pub fn minus(a: u32, b: u32) -> u32
     ensures { result ≡ minus a b }
 {
     a & !b
 }
 
+#[tactic(auto, unfolding(crate::specs::Sets::with))]
 pub fn with(s: u32, i: usize) -> u32
     ensures { result ≡ with s i }
 {
     join(s, single(i))
 }
 
+#[tactic(auto, unfolding(crate::specs::Sets::without))]
 pub fn without(s: u32, i: usize) -> u32
     ensures { result ≡ without s i }
 {
@@ -48,7 +51,7 @@ pub fn without(s: u32, i: usize) -> u32
 }
 
 // All numbers below n.
-#[tactic(auto, using(crate::proofs::Shifts::below_past))]
+#[tactic(auto, using(crate::proofs::Shifts::below_in, crate::proofs::Shifts::below_past))]
 pub fn below(n: usize) -> u32
     ensures { result ≡ below n }
 {
@@ -59,8 +62,9 @@ pub fn below(n: usize) -> u32
 }
 
 // The least number of the set; 32 where there is none.
+#[tactic(auto, unfolding(crate::specs::Sets::least_of))]
 pub fn least(s: u32) -> usize
     ensures { result ≡ least_of s }
 {
-    u32::trailing_zeros(s) as usize
+    s.trailing_zeros() as usize
 }
