@@ -1,5 +1,6 @@
 -- No second verdict fits a contract that fixes what is said: what a verdict says gives it back. Assumes nothing.
 use mathlib.Core.Path.{◌≡◌, refl}
+use native.Mathlib.Omega.{arith}
 use lib.Dec.{eqb}
 use Prim.Native.Nat.{ℕ}
 use Rattle.std.specs.Prelude.{Result, Ok, Err, if◌then◌else◌}
@@ -34,3 +35,14 @@ verdict_back (Err Room) = refl
 
 pub one_verdict : (s : Said) (a b : Result ℕ Refusal) → said a ≡ s → said b ≡ s → a ≡ b
 one_verdict = one_answer said verdict verdict_back
+
+-- a refusal is never said as an acceptance is
+pub refusal_some : (r : Refusal) → (said (Err r)).number ≡ 0 → ⊥
+refusal_some (Line i) e = omega arith
+refusal_some Header e = omega arith
+refusal_some (Body i) e = omega arith
+refusal_some (Op i) e = omega arith
+refusal_some (Field i) e = omega arith
+refusal_some (Short i) e = omega arith
+refusal_some (Extra i) e = omega arith
+refusal_some Room e = omega arith

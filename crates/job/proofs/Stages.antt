@@ -95,8 +95,6 @@ module _ (bs ch ins out : List ℕ) (b : ℕ) (s : Said) (t : List ℕ) (e : out
       let x : by_image b ch ins (outcome s t) ≡ refusal n i = rw (ne_eqb s.number 0 (λ y. z (p ∙ y)), p, q) in
       g ∙ ap (λ (l : List ℕ). put l out) (sym x ∙ ap (by_image b ch ins) e)
 
-pub ruleset image_laws = (image_read, image_refused)
-
 -- what follows a line, as the code lends it
 rest_is : (text : List ℕ) (line : ℕ) → line ≡ line_length text → take (length text - (line + 1)) (drop (line + 1) text) ≡ after_line text
 rest_is text line e = part_to_end text (line + 1) ∙ ap (λ (n : ℕ). drop (n + 1) text) e

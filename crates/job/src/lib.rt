@@ -149,13 +149,10 @@ fn from_image(text: &[u8], choices: &[u8], inputs: &[u32], budget: u32, out: &mu
     ensures { wrote result out.new ≡ put (from_image budget choices.now inputs.now text.now) out.old }
 {
     let mut table = [0u64; Image::LINES];
-    let v = reader::read(text, &mut table);
-    let number = v.number();
-    let line = v.line();
-    if number == 0 {
-        return from_table(&table[..line], choices, inputs, budget, out);
+    match reader::read(text, &mut table) {
+        Ok(lines) => from_table(&table[..lines], choices, inputs, budget, out),
+        Err(refusal) => refuse(refusal.number(), refusal.line() as u32, out),
     }
-    refuse(number, line as u32, out)
 }
 
 // The answer from the line of inputs on.

@@ -1,17 +1,14 @@
--- Laws of the loop over lines, and of what is left after them, as the code has them. Assumes nothing.
+-- Laws of the loop over lines, as the code has them. Assumes nothing.
 use Rattle.std.specs.Prelude.{Option, None, Some}
 use Prim.Native.Nat.{ℕ, zero, suc, ◌+◌, ◌-◌, ◌*◌, ◌≤◌, ◌<◌}
 use mathlib.Core.Path.{◌≡◌, refl, sym, ap, ◌∙◌}
-use mathlib.Core.Bool.{Bool, true, false}
 use mathlib.Core.List.{List, [], ◌∷◌, ◌++◌, append_assoc, append-nil}
 use native.Mathlib.Omega.{arith}
 use native.Mathlib.Numerals.{add-one}
-use borrow.Author.Tests.{eq-eqb, ne_eqb}
 use lib.ListN.{length, get_or, set, take}
 use Rattle.std.proofs.lemmas.List.{set-get_or}
 use lib.Seq.{take-suc-set}
-use Rattle.image.specs.Judge.{Said, say}
-use Rattle.lines.specs.Text.{line_at, frames_from, settled}
+use Rattle.lines.specs.Text.{line_at, frames_from}
 use Rattle.lines.proofs.Lines.{line_there}
 use Rattle.reader.specs.Steps.{Decoded}
 
@@ -57,23 +54,3 @@ module _ (bs : List ℕ) where
       record { lines = ap (λ n. take n ws) (sym k) ∙ a ∙ ap (frames_from bs 0) (sym s); within = omega arith }
 
 pub ruleset lines_laws = (lines_turn, lines_stop, lines_full, line_there)
-
--- what is left after the lines
-pub settle_none : (s : Said) (m : Bool) → m ≡ false → s ≡ settled m s
-unfolding settled
-settle_none s m g = rw g
-
-module _ (s : Said) (m : Bool) (n : ℕ) (g : m ≡ true) (h : n ≡ s.number) where
-  pub settle_extra : (p : ℕ) → n ≡ 0 → p ≡ s.line → say 7 p ≡ settled m s
-  unfolding settled
-  settle_extra p e q = rw (g, eq-eqb s.number 0 (sym h ∙ e), q)
-
-  pub settle_line : (p : ℕ) → n ≡ 6 → p ≡ s.line → say 1 p ≡ settled m s
-  unfolding settled
-  settle_line p e q = rw (g, ne_eqb s.number 0 (λ z. omega arith), eq-eqb s.number 6 (sym h ∙ e), q)
-
-  pub settle_other : (n ≡ 0 → ⊥) → (n ≡ 6 → ⊥) → s ≡ settled m s
-  unfolding settled
-  settle_other f k = rw (g, ne_eqb s.number 0 (λ q. f (h ∙ q)), ne_eqb s.number 6 (λ q. k (h ∙ q)))
-
-pub ruleset settle_laws = (settle_none, settle_extra, settle_line, settle_other)

@@ -7,7 +7,7 @@ ghost use Rattle.image.specs.Judge.{said};
 ghost use Rattle.lines.specs.Text.{line_at, settled, outcome, read_as, reading};
 ghost use Rattle.reader.specs.Steps.{Decoded};
 
-use image::{Image, Verdict};
+use image::{Image, Refusal, Verdict};
 
 // The number of the line that begins at byte at.
 #[tactic(auto, using(lines::proofs::Lines::line_laws))]
@@ -35,20 +35,15 @@ fn decode_lines(bytes: &[u8], words: &mut [u64]) -> usize
 }
 
 // The judge's verdict over the lines read, where bytes are left after them.
+#[tactic(auto, unfolding(lines::specs::Text::settled))]
 fn settle(v: Verdict, left: bool) -> Verdict
     ensures { said result ≡ settled left (said v) }
 {
-    if left {
-        let n = v.number();
-        if n == 0 {
-            return Verdict::Extra(v.line());
-        }
-        if n == 6 {
-            return Verdict::Line(v.line());
-        }
-        return v;
+    match v {
+        Ok(n) if left => Err(Refusal::Extra(n)),
+        Err(Refusal::Short(n)) if left => Err(Refusal::Line(n)),
+        _ => v,
     }
-    v
 }
 
 fn copy(from: &[u64], to: &mut [u64])
@@ -59,15 +54,14 @@ fn copy(from: &[u64], to: &mut [u64])
 }
 
 // The lines go to the table's start where the verdict is 0.
+#[tactic(auto, using(laws::specs::Lists::stored))]
 fn fill(v: Verdict, lines: &[u64], table: &mut [u64]) -> Verdict
     requires { length lines.now ≤ length table.old }
     ensures { outcome (said result) table.new ≡ read_as (said v) lines.now table.old }
 {
-    if 0 < v.number() {
-        return v;
-    }
+    let n = v?;
     copy(lines, table);
-    v
+    Ok(n)
 }
 
 // Reads an image's lines into a table. They go to a table of its own first, so that a refusal changes nothing.
@@ -76,7 +70,7 @@ pub fn read(bytes: &[u8], table: &mut [u64]) -> Verdict
     ensures { outcome (said result) table.new ≡ reading bytes.now table.old }
 {
     if table.len() < Image::LINES {
-        return Verdict::Room;
+        return Err(Refusal::Room);
     }
     let mut words = [0u64; Image::LINES];
     let n = decode_lines(bytes, &mut words);

@@ -9,9 +9,8 @@ use lib.ListN.{length, get_or, set, take, replicate}
 use lib.Seq.{length-take-le, get_or-set_same, get_or-set_other}
 use Rattle.frame.specs.Fields.{fields}
 use Rattle.frame.specs.declared.Frame.{Frame}
-use Rattle.image.specs.declared.Verdict.{Verdict}
 use Rattle.image.specs.Layout.{lengths, frame, counts, bodies, len, first, due}
-use Rattle.image.specs.Judge.{judged, Said, said as verdict_of}
+use Rattle.image.specs.Judge.{judged, Said, say}
 use Rattle.image.proofs.Walk.{due_above, first_next, first_grows}
 use Rattle.image.proofs.Accepted.{accepted_has, few_lines, Counted, counted}
 use Rattle.kernel.specs.Machine.{Job}
@@ -147,23 +146,23 @@ module _ (j : Job) (lent cs : List ℕ) (a : Told) where
       asked_room r e q =
           rw (le-ltb 4096 (length j.choices) h, le-ltb 1024 (length j.inputs) g, lt-ltb (length lent) 256 r, e, q)
 
-      module _ (r : 256 ≤ length lent) (v : Verdict) (n : ℕ) (w : verdict_of v ≡ judged j.table) (m : n ≡ (verdict_of v).number) where
-        pub asked_run : n ≡ 0 → record { answer = a; cells = cs } ≡ runs j lent → IsAsked
+      module _ (r : 256 ≤ length lent) where
+        pub asked_run : (n : ℕ) → say 0 n ≡ judged j.table → record { answer = a; cells = cs } ≡ runs j lent → IsAsked
         unfolding asked_for
-        asked_run z e =
-            let y : (judged j.table).number ≡ 0 = ap (λ (x : Said). x.number) (sym w) ∙ sym m ∙ z in
+        asked_run n w e =
+            let y : (judged j.table).number ≡ 0 = ap (λ (x : Said). x.number) (sym w) in
             rw (le-ltb 4096 (length j.choices) h, le-ltb 1024 (length j.inputs) g, le-ltb (length lent) 256 r, y) e
 
-        pub asked_refused : (i : ℕ) → (n ≡ 0 → ⊥) → i ≡ (verdict_of v).line → (judged j.table).line < 4294967296 → a ≡ refused_at n i → cs ≡ lent → IsAsked
+        pub asked_refused : (v : Said) → v ≡ judged j.table → (v.number ≡ 0 → ⊥) → (judged j.table).line < 4294967296 → a ≡ refused_at v.number v.line → cs ≡ lent → IsAsked
         unfolding asked_for
-        asked_refused i z l s e q =
-            let y : (judged j.table).number ≡ n = ap (λ (x : Said). x.number) (sym w) ∙ sym m in
-            let k : i ≡ (judged j.table).line = l ∙ ap (λ (x : Said). x.line) w in
+        asked_refused v w z s e q =
+            let y : (judged j.table).number ≡ v.number = ap (λ (x : Said). x.number) (sym w) in
+            let k : v.line ≡ (judged j.table).line = ap (λ (x : Said). x.line) w in
             let u : (judged j.table).line % 4294967296 ≡ (judged j.table).line = omega arith in
-            rw (le-ltb 4096 (length j.choices) h, le-ltb 1024 (length j.inputs) g, le-ltb (length lent) 256 r, y, ne_eqb n 0 z, e, q, k, u)
+            rw (le-ltb 4096 (length j.choices) h, le-ltb 1024 (length j.inputs) g, le-ltb (length lent) 256 r, y, ne_eqb v.number 0 z, e, q, k, u)
 
 pub judged_low : (t : List ℕ) → (judged t).line < 4294967296
 judged_low t = omega (arith, few_lines t)
 
-pub judged_good : (v : Verdict) (n : ℕ) (t : List ℕ) → verdict_of v ≡ judged t → n ≡ (verdict_of v).number → n ≡ 0 → (judged t).number ≡ 0
-judged_good v n t w m z = ap (λ (x : Said). x.number) (sym w) ∙ sym m ∙ z
+pub judged_good : (n : ℕ) (t : List ℕ) → say 0 n ≡ judged t → (judged t).number ≡ 0
+judged_good n t w = ap (λ (x : Said). x.number) (sym w)

@@ -1,18 +1,18 @@
 // One run of a design under given choices, inputs and budget.
 #![tactic(auto)]
 
-ghost use Rattle.std.specs.Prelude.{◌≡◌, ◌+◌, ◌-◌, ◌*◌, ◌≤◌, ◌<◌, length, set, replicate};
+ghost use Rattle.std.specs.Prelude.{◌≡◌, ◌+◌, ◌-◌, ◌*◌, ◌≤◌, ◌<◌, Err, length, set, replicate};
 ghost use Rattle.shows.specs.Shows.{lists};
 ghost use Rattle.turns.specs.Stands.{Firsts};
 ghost use Rattle.turns.specs.Code.{turns, first_now, first_ran, started, first_lists, zeroed, refused_at, told};
 ghost use Rattle.answer.specs.Answer.{said};
 ghost use Rattle.image.specs.Layout.{bodies as bodiesOf};
-ghost use Rattle.image.specs.Judge.{judged};
+ghost use Rattle.image.specs.Judge.{judged, said as told_of};
 ghost use Rattle.kernel.specs.Machine.{job_of};
 ghost use Rattle.kernel.specs.Run.{runs, asked as asked_for};
 
 use answer::Answer;
-use image::Image;
+use image::{Image, Refusal};
 use marks::Marks;
 use turns::{Control, Now};
 
@@ -193,6 +193,13 @@ fn refusal(number: u8, line: usize) -> Answer
     }
 }
 
+// The refusal of a table, or of a buffer too short for the cells.
+fn refused(r: Refusal) -> Answer
+    ensures { said result ≡ refused_at (told_of (Err r)).number (told_of (Err r)).line }
+{
+    refusal(r.number(), r.line())
+}
+
 // Runs a design on a table, with the order of threads, the inputs and the budget as given, and the design's cells in the lent ones.
 #[tactic(auto, using(crate::proofs::Ends::asked_choices))]
 pub fn run(table: &[u64], choices: &[u8], inputs: &[u32], budget: u32, cells: &mut [u32]) -> Answer
@@ -205,12 +212,10 @@ pub fn run(table: &[u64], choices: &[u8], inputs: &[u32], budget: u32, cells: &m
         return refusal(9, 2);
     }
     if cells.len() < Image::CELLS as usize {
-        return refusal(8, 0);
+        return refused(Refusal::Room);
     }
-    let v = judge::judge(table);
-    let number = v.number();
-    if number == 0 {
-        return run_accepted(table, choices, inputs, budget, cells);
+    match judge::judge(table) {
+        Ok(_) => run_accepted(table, choices, inputs, budget, cells),
+        Err(refusal) => refused(refusal),
     }
-    refusal(number, v.line())
 }

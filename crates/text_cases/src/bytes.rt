@@ -7,7 +7,7 @@ use std::io;
 // The smallest image, which is a header with one cell and a main of length 0, and after its 34 bytes one line more.
 fn small_text() -> [u8; 51] {
     let mut text = [b'0'; 51];
-    writer::write(&[0xa000_0000_0000_0001, 0xa100_0000_0000_0000], &mut text);
+    let _ = writer::write(&[0xa000_0000_0000_0001, 0xa100_0000_0000_0000], &mut text);
     text_case::set_byte(&mut text, 50, 0x0a);
     text
 }

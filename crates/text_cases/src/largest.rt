@@ -25,7 +25,7 @@ pub fn frames() -> [u64; Image::LINES + 1] {
 
 fn write_first(table: &[u64], frames: usize, text: &mut [u8]) {
     if frames <= table.len() {
-        writer::write(&table[0..frames], text);
+        let _ = writer::write(&table[0..frames], text);
     }
 }
 
