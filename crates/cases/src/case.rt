@@ -1,6 +1,4 @@
 // One case: an answer is printed after the case's label.
-ghost use Rattle.std.specs.Prelude.{◌≡◌, set as stored};
-
 use image::Verdict;
 use std::io;
 
@@ -30,13 +28,5 @@ pub fn mark(rt: &impl Print, a: Verdict, frames: usize, line: usize) -> io::Resu
             print!(rt; " {number:02x}")
         }
         _ => rt.write_all(b" xx"),
-    }
-}
-
-pub fn set(table: &mut [u64], line: usize, frame: u64)
-    ensures { table.new ≡ stored table.old line frame }
-{
-    if line < table.len() {
-        table[line] = frame;
     }
 }

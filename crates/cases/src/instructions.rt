@@ -32,7 +32,7 @@ fn tried(line: usize, instruction: u64) -> Verdict {
         0x4000_0000_0000_0000,
         0x4000_0000_0000_0000,
     ];
-    case::set(&mut table, line, instruction);
+    slots::put(&mut table, line, instruction);
     judge::judge(&table)
 }
 

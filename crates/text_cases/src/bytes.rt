@@ -8,7 +8,7 @@ use std::io;
 fn small_text() -> [u8; 51] {
     let mut text = [b'0'; 51];
     let _ = writer::write(&[0xa000_0000_0000_0001, 0xa100_0000_0000_0000], &mut text);
-    text_case::set_byte(&mut text, 50, 0x0a);
+    slots::put(&mut text, 50, 0x0a);
     text
 }
 
@@ -22,7 +22,7 @@ fn first_read(text: &[u8], bytes: usize) -> Verdict {
 
 fn retyped(at: usize, byte: u8) -> Verdict {
     let mut text = small_text();
-    text_case::set_byte(&mut text, at, byte);
+    slots::put(&mut text, at, byte);
     first_read(&text, 34)
 }
 

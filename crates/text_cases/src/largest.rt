@@ -1,5 +1,4 @@
 // The largest image.
-use cases::case;
 use image::Image;
 
 // A body of no instructions, and goto 0, which every body may hold.
@@ -9,7 +8,7 @@ const GOTO: u64 = 0x4000_0000_0000_0000;
 
 fn lengths(table: &mut [u64]) {
     for line in 2..34 {
-        case::set(table, line, BODY | 31);
+        slots::put(table, line, BODY | 31);
     }
 }
 
@@ -17,8 +16,8 @@ fn lengths(table: &mut [u64]) {
 // Behind the last due frame stands one more.
 pub fn frames() -> [u64; Image::LINES + 1] {
     let mut table = [GOTO; Image::LINES + 1];
-    case::set(&mut table, 0, 0xa010_2010_0000_0100);
-    case::set(&mut table, 1, BODY | 32);
+    slots::put(&mut table, 0, 0xa010_2010_0000_0100);
+    slots::put(&mut table, 1, BODY | 32);
     lengths(&mut table);
     table
 }

@@ -1,6 +1,4 @@
 // One case: a text is read or written, and the answer is printed after the case's label.
-ghost use Rattle.std.specs.Prelude.{◌≡◌, set};
-
 use crate::largest;
 use cases::case;
 use image::{Image, Verdict};
@@ -49,18 +47,10 @@ pub fn first_bytes(rt: &impl Print, label: &[u8], bytes: usize) -> io::Result<()
     first_read_to(rt, label, &text, bytes, Image::LINES)
 }
 
-pub fn set_byte(text: &mut [u8], at: usize, byte: u8)
-    ensures { text.new ≡ set text.old at byte }
-{
-    if at < text.len() {
-        text[at] = byte;
-    }
-}
-
 // The largest image's lines with one byte changed.
 pub fn changed_byte(rt: &impl Print, label: &[u8], at: usize, byte: u8) -> io::Result<()> {
     let mut text = largest::lines();
-    set_byte(&mut text, at, byte);
+    slots::put(&mut text, at, byte);
     first_read_to(rt, label, &text, 17 * Image::LINES, Image::LINES)
 }
 
