@@ -37,10 +37,11 @@ pub fn mark(rt: &impl Print, a: Verdict, frames: usize, line: usize) -> io::Resu
     }
 }
 
-pub fn set(table: &mut [u64], line: usize, frame: u64)
-    ensures { table.new ≡ stored table.old line frame }
+// An item goes to a place; past the end nothing is done.
+pub fn set<T: Copy>(items: &mut [T], at: usize, item: T)
+    ensures { items.new ≡ stored items.old at item }
 {
-    if line < table.len() {
-        table[line] = frame;
+    if at < items.len() {
+        items[at] = item;
     }
 }
