@@ -1,7 +1,8 @@
 // The lines of a job that stand before its image.
-ghost use Rattle.std.specs.Prelude.{◌≡◌, ℕ, ◌^◌, ◌<◌, ◌≤◌, length, map, take, Some, None, MatchOption};
+ghost use Rattle.std.specs.Prelude.{◌≡◌, ℕ, ◌^◌, ◌<◌, length, Some, None, MatchOption};
 ghost use Rattle.std.proofs.Common.{arith};
 ghost use Rattle.program.specs.JobLines.{after_line, budget_of, numbers_of};
+ghost use Rattle.job.specs.Numbers.{Lists};
 
 // A number on a job's line, where it stands in so many digits.
 pub trait Number: Copy {
@@ -64,7 +65,7 @@ pub fn budget_of(text: &[u8]) -> Option<(u32, &[u8])>
 
 // How many numbers the first line has, which go to the room's start, no more than it holds; and what follows the line.
 pub fn numbers_of<'a, T: Number>(text: &'a [u8], room: &mut [T]) -> Option<(usize, &'a [u8])>
-    ensures { MatchOption result (numbers_of T.DIGITS (length room.old) text.now ≡ None) (λ p. (numbers_of T.DIGITS (length room.old) text.now ≡ Some (map T.value (take p.0 room.new))) × (p.0 ≤ length room.new) × (p.1.now ≡ after_line text.now)) }
+    ensures { MatchOption result (numbers_of T.DIGITS (length room.old) text.now ≡ None) (Lists T.value T.DIGITS (length room.old) text.now room.new) }
 {
     let (line, rest) = program::split_line(text)?;
     let digits = T::DIGITS;

@@ -1,5 +1,4 @@
 // Every byte at one place of a small text, and every start of it.
-use crate::text_case;
 use cases::case;
 use image::{Image, Verdict};
 use std::io;
@@ -15,7 +14,7 @@ fn small_text() -> [u8; 51] {
 fn first_read(text: &[u8], bytes: usize) -> Verdict {
     let mut table = [0u64; Image::LINES];
     if bytes <= text.len() {
-        return reader::read(&text[0..bytes], &mut table);
+        return reader::read(&text[..bytes], &mut table);
     }
     reader::read(text, &mut table)
 }

@@ -16,7 +16,7 @@ pub fn read_to(rt: &impl Print, label: &[u8], text: &[u8], words: usize) -> io::
     if table.len() < words {
         return Ok(());
     }
-    say(rt, label, reader::read(text, &mut table[0..words]))
+    say(rt, label, reader::read(text, &mut table[..words]))
 }
 
 pub fn read(rt: &impl Print, label: &[u8], text: &[u8]) -> io::Result<()> {
@@ -33,7 +33,7 @@ fn first_read_to(
     if text.len() < bytes {
         return Ok(());
     }
-    read_to(rt, label, &text[0..bytes], words)
+    read_to(rt, label, &text[..bytes], words)
 }
 
 pub fn largest_read_to(rt: &impl Print, label: &[u8], words: usize) -> io::Result<()> {
@@ -60,7 +60,7 @@ pub fn written_to(rt: &impl Print, label: &[u8], table: &[u64], bytes: usize) ->
     if text.len() < bytes {
         return Ok(());
     }
-    say(rt, label, writer::write(table, &mut text[0..bytes]))
+    say(rt, label, writer::write(table, &mut text[..bytes]))
 }
 
 fn first_written_to(
@@ -73,7 +73,7 @@ fn first_written_to(
     if table.len() < frames {
         return Ok(());
     }
-    written_to(rt, label, &table[0..frames], bytes)
+    written_to(rt, label, &table[..frames], bytes)
 }
 
 pub fn largest_written_to(rt: &impl Print, label: &[u8], bytes: usize) -> io::Result<()> {
