@@ -13,11 +13,8 @@ fn free_all(waiting: u32, events: u32, waiters: &mut [u32]) -> u32
     ensures waiters_after { waiters.new ≡ cleared_by events waiters.old }
 {
     let mut still = waiting;
-    let mut left = events;
-    while left != 0 {
-        let e = sets::least(left);
+    for e in sets::each(events) {
         still = waits::free_on(still, waiters, e);
-        left = sets::without(left, e);
     }
     still
 }

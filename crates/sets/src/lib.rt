@@ -2,6 +2,7 @@
 #![tactic(auto)]
 
 ghost use Rattle.std.specs.Prelude.{◌≡◌};
+ghost use Rattle.std.specs.Iterator.{at_most};
 ghost use Rattle.sets.specs.Sets.{has, single, join, minus, with, without, below, least_of};
 
 #[tactic(auto, using(crate::specs::Laws::has_past, crate::proofs::Shifts::tested))]
@@ -67,4 +68,37 @@ pub fn least(s: u32) -> usize
     ensures { result ≡ least_of s }
 {
     s.trailing_zeros() as usize
+}
+
+// What is left of a set that is gone through, the least number first.
+#[derive(Clone, Copy)]
+pub struct Members {
+    pub left: u32,
+}
+
+// The numbers of the set, the least first.
+pub fn each(s: u32) -> Members
+    ensures { result ≡ record { left = s } }
+{
+    Members { left: s }
+}
+
+impl Iterator for Members {
+    type Item = usize;
+
+    ghost use Rattle.sets.specs.Members.{TakesLeast};
+
+    ghost next_gives = { λ s r t. TakesLeast s.left r t.left };
+
+    ghost remaining = { λ s. at_most s.left };
+
+    #[tactic(auto, using(crate::specs::Laws::least_less))]
+    fn next(&mut self) -> Option<usize> {
+        if self.left == 0 {
+            return None;
+        }
+        let i = least(self.left);
+        self.left = without(self.left, i);
+        Some(i)
+    }
 }

@@ -11,7 +11,7 @@ pub fn get_or<T: Copy>(xs: &[T], i: usize, default: T) -> T
 }
 
 // Stores where there is a place.
-#[tactic(auto, using(crate::proofs::Past::set_past))]
+#[tactic(auto, using(laws::specs::Lists::set_past))]
 pub fn put<T: Copy>(xs: &mut [T], i: usize, x: T)
     ensures { xs.new ≡ set xs.old i x }
 {
