@@ -167,5 +167,3 @@ module _ (job out l : List ℕ) where
 
   pub count_counted : (r : Option ℕ) → wrote r l ≡ answered job out → unwrap_or r 0 ≡ length (take (unwrap_or r 0) l)
   count_counted r e = sym (length-take-le (unwrap_or r 0) l (count_within r e))
-
-pub ruleset count_laws = (count_within, count_counted)

@@ -6,8 +6,9 @@ use mathlib.Core.List.{List, [], ◌∷◌}
 use native.Mathlib.Omega.{arith}
 use borrow.Author.Tests.{ltb-true, ltb-false, leb-true, leb-false, lt-ltb, le-ltb, le-leb, lt-leb, eqb-true, ne_eqb}
 use lib.Dec.{eqb, ltb, leb}
-use lib.ListN.{length, take, drop, replicate, length-take}
+use lib.ListN.{length, take, replicate, length-take}
 use lib.Seq.{get_or-take, take-nil}
+use Rattle.std.proofs.lemmas.List.{drop-take}
 use Rattle.std.specs.Prelude.{if◌then◌else◌, Option, None, Some}
 use Rattle.laws.specs.Lists.{over}
 use Rattle.hexadecimal.specs.Hex.{digits, value, number_at}
@@ -137,15 +138,6 @@ length_long (b ∷ bs) (suc c) h = by (eqb b 0x0a) h (λ l. length_long bs c l)
     by true l f = absurd (omega arith)
     by false l f = ap suc (f (omega arith))
 
-drop_take : (n m : ℕ) (l : List ℕ) → drop n (take (n + m) l) ≡ take m (drop n l)
-drop_take zero m l =
-    let e : 0 + m ≡ m = omega arith in
-    rw e
-drop_take (suc n) m [] = rw (take-nil (suc n + m), take-nil m)
-drop_take (suc n) m (x ∷ l) =
-    let e : suc n + m ≡ suc (n + m) = omega arith in
-    rw e (drop_take n m l)
-
 module _ (c : ℕ) (text : List ℕ) where
   -- a line that goes past the cut is not ended before it
   cut_unended : c ≤ line_length text → ended (take c text) ≡ false
@@ -161,7 +153,7 @@ module _ (c : ℕ) (text : List ℕ) where
     same_ended = rw same_length (below c text (line_length text) h)
 
     after_take : (m : ℕ) → line_length text + 1 + m ≡ c → after_line (take c text) ≡ take m (after_line text)
-    after_take m e = rw (same_length, ← e) (drop_take (line_length text + 1) m text)
+    after_take m e = rw (same_length, ← e) (drop-take (line_length text + 1) m text)
 
   pub numbers_take : (n i k : ℕ) → ((j : ℕ) → j < k → n * (i + j) + n ≤ c) → numbers_from (take c text) n i k ≡ numbers_from text n i k
   unfolding numbers_from
