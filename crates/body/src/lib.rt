@@ -34,19 +34,28 @@ fn next_input(count: usize, taken: usize) -> usize
     taken
 }
 
-// The instruction at place p of body b is completed: one less is left of the budget.
-fn complete(done: Done, n: Now, count: usize, b: usize, p: usize, threads: usize) -> Now
-    ensures { result ≡ completed_to threads count b p (Ok done.came) done.marks n }
+// An instruction of body b is completed: where the machine stands after it, with one less left of the budget. What it came to is asked
+// first, where the compiler still knows it of each instruction.
+fn complete(done: Done, n: Now, count: usize, b: usize, threads: usize) -> Now
+    ensures { result ≡ completed_to threads count b 0 (Ok done.came) done.marks n }
 {
-    let n = Now {
-        left: n.left.saturating_sub(1),
-        ..n
-    };
+    let left = n.left.saturating_sub(1);
     match done.came {
-        Obeyed::Goes => n.to_marks(stay(b, threads, done.marks), done.marks),
-        Obeyed::Waits => n.to_marks(Control::Evaluation, done.marks),
+        Obeyed::Goes => Now {
+            control: stay(b, threads, done.marks),
+            left,
+            marks: done.marks,
+            ..n
+        },
+        Obeyed::Waits => Now {
+            control: Control::Evaluation,
+            left,
+            marks: done.marks,
+            ..n
+        },
         Obeyed::Took => Now {
             control: Control::Runs(b),
+            left,
             taken: next_input(count, n.taken),
             ..n
         },
@@ -54,6 +63,7 @@ fn complete(done: Done, n: Now, count: usize, b: usize, p: usize, threads: usize
             control: Control::UpdatePhase,
             limit,
             stage: Stage::During,
+            left,
             ..n
         },
     }
@@ -75,8 +85,9 @@ fn obey_at(
     let threads = s.threads();
     match obey::obey(f, b, n, inputs, s, cells) {
         Ok(done) => {
+            let n = complete(done, n, inputs.len(), b, threads);
             slots::put(s.places, b, p + 1);
-            complete(done, n, inputs.len(), b, p, threads)
+            n
         }
         Err(k) => n.to(Control::Over(k, b, p)),
     }

