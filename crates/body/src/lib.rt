@@ -112,7 +112,7 @@ fn after_plain(
         End::Ended => moves::end_body(n, b, s.threads()),
         End::Stopped(k) => n.to(Control::Over(k, b, p)),
         End::Left => obey_at(
-            frame::decode(job.table[base + p]),
+            Frame::from(job.table[base + p]),
             job.inputs,
             b,
             p,

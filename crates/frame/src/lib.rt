@@ -3,7 +3,6 @@
 #![tactic(auto)]
 
 ghost use Rattle.std.specs.Prelude.{◌≡◌};
-ghost use Rattle.frame.specs.Fields.{fields};
 
 // A frame's fields.
 #[derive(Clone, Copy, Debug, PartialEq, Eq)]
@@ -72,14 +71,18 @@ pub enum Fault {
     Field,
 }
 
-pub fn decode(f: u64) -> Frame
-    ensures { result ≡ fields f }
-{
-    Frame {
-        op: (f / 0x100_0000_0000_0000) as u8,
-        d: (f / 0x1_0000_0000_0000 % 256) as u8,
-        a: (f / 0x100_0000_0000 % 256) as u8,
-        b: (f / 0x1_0000_0000 % 256) as u8,
-        imm: (f % 0x1_0000_0000) as u32,
+impl From<u64> for Frame {
+    ghost use Rattle.frame.specs.Fields.{fields};
+
+    ghost from_gives = { λ f r. r ≡ fields f };
+
+    fn from(f: u64) -> Self {
+        Frame {
+            op: (f / 0x100_0000_0000_0000) as u8,
+            d: (f / 0x1_0000_0000_0000 % 256) as u8,
+            a: (f / 0x100_0000_0000 % 256) as u8,
+            b: (f / 0x1_0000_0000 % 256) as u8,
+            imm: (f % 0x1_0000_0000) as u32,
+        }
     }
 }

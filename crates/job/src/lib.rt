@@ -11,6 +11,7 @@ mod job_line;
 mod ran;
 
 use answer::Answer;
+use frame::Frame;
 use image::Image;
 use job_line::{budget_of, numbers_of};
 use ran::Ran;
@@ -70,7 +71,7 @@ fn from_table(table: &[u64], choices: &[u8], inputs: &[u32], budget: u32) -> Ran
 {
     let mut cells = [0u32; Image::CELLS as usize];
     let answer = run::run(table, choices, inputs, budget, &mut cells);
-    let header = frame::decode(table[0]);
+    let header = Frame::from(table[0]);
     let count = header.imm as usize;
     Ran {
         answer,

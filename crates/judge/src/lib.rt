@@ -46,7 +46,7 @@ fn frame_at(table: &[u64], line: usize) -> Result<Frame, Refusal>
     ensures short { IfErr result (λ r. (length table.now ≤ line) × (r ≡ Short line)) }
 {
     let &word = table.get(line).ok_or(Refusal::Short(line))?;
-    Ok(frame::decode(word))
+    Ok(Frame::from(word))
 }
 
 // The kind of body k.
@@ -89,7 +89,7 @@ fn judge_instructions(table: &[u64], c: Counts, bodies: usize) -> Verdict
 {
     let mut line = 1 + bodies;
     for (k, &head) in table[1..line].iter().enumerate() {
-        let n = frame::decode(head).imm;
+        let n = Frame::from(head).imm;
         judge_body(table, c, k, n, line)?;
         line += n as usize;
     }

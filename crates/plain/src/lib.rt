@@ -119,7 +119,7 @@ fn run_body(body: &[u64], from: usize, budget: u32, cells: &mut [u32]) -> Ran
                 left: left,
             };
         }
-        let i = frame::decode(body[place]);
+        let i = Frame::from(body[place]);
         let e = effect_of(i, &*cells);
         match e {
             Eff::Put(at, v) => {

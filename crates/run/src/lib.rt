@@ -11,6 +11,7 @@ ghost use Rattle.kernel.specs.Machine.{job_of};
 ghost use Rattle.kernel.specs.Run.{runs, asked as asked_for};
 
 use answer::Answer;
+use frame::Frame;
 use image::{Image, Refusal};
 use marks::Marks;
 use turns::{Control, Job, Now, Stage, State};
@@ -23,7 +24,7 @@ fn put_firsts(table: &[u64], bodies: usize, firsts: &mut [usize])
     let mut at = 1 + bodies;
     for (k, line) in table[1..1 + bodies].iter().enumerate() {
         firsts[k] = at;
-        at = at + frame::decode(*line).imm as usize;
+        at = at + Frame::from(*line).imm as usize;
     }
     firsts[bodies] = at;
 }
@@ -110,7 +111,7 @@ fn run_accepted(
     requires { ((judged table.now).number ≡ 0) × (length choices.now ≤ 4096) × (256 ≤ length cells.old) }
     ensures { record { answer = said result; cells = cells.new } ≡ runs (job_of table.now choices.now inputs.now budget) cells.old }
 {
-    let h = frame::decode(table[0]);
+    let h = Frame::from(table[0]);
     let threads = h.d as usize;
     let updates = h.b as usize;
     let mut firsts = [0usize; Image::BODIES + 1];

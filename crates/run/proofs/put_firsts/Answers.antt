@@ -11,13 +11,13 @@ loop-k-init c = search (firsts_none, first_begins, rules)
 
 pub overflow_add-at-in-loop-k : goal.overflow_add-at-in-loop-k
 overflow_add-at-in-loop-k c =
-    record { fits = line_fits _ _ c.requires.0 c.requires.1 _ _ _ c.loop-k-test.true c.decode.ensures c.loop-k.invariant.0 _ (search rules) }
+    record { fits = line_fits _ _ c.requires.0 c.requires.1 _ _ _ c.loop-k-test.true c.from.ensures c.loop-k.invariant.0 _ (search rules) }
 
 pub loop-k-preserved : goal.loop-k-preserved
 loop-k-preserved c =
     let i = c.loop-k.invariant in
     let many = lines_many _ _ c.requires.0 c.requires.1 in (
-      line_next _ _ c.requires.0 c.requires.1 _ _ _ c.loop-k-test.true c.decode.ensures i.0,
+      line_next _ _ c.requires.0 c.requires.1 _ _ _ c.loop-k-test.true c.from.ensures i.0,
       firsts_more _ _ _ _ i.1 i.0 (omega (arith, many, c.requires.2, c.loop-k-test.true, c.loop-k.auto.firsts)),
     )
 
