@@ -11,6 +11,7 @@ use Rattle.frame.specs.Fields.{fields}
 use Rattle.frame.specs.Ops.{meaning_of}
 use Rattle.marks.specs.declared.Marks.{Marks}
 use Rattle.marks.specs.Marks.{may_run}
+use Rattle.ending.specs.declared.Ending.{Ending}
 use Rattle.plain.specs.declared.End.{End}
 use Rattle.plain.specs.declared.End.TheVariants.{Ended, Left, Stopped}
 use Rattle.plain.specs.declared.Ran.{Ran}
@@ -46,7 +47,7 @@ module _ (t b : ℕ) (m : Marks) where
 
 -- An instruction completed
 module _ (t c b p : ℕ) (n : Now) (m : Marks) (o : Obeyed) (x : Now) where
-  pub completed_stop : (k : ℕ) → o ≡ Stops k → x ≡ goes_to (Over k b p) n → x ≡ completed_to t c b p o m n
+  pub completed_stop : (k : Ending) → o ≡ Stops k → x ≡ goes_to (Over k b p) n → x ≡ completed_to t c b p o m n
   completed_stop k e y = rw e y
 
   pub completed_on : (g : Control) → o ≡ Goes → g ≡ stays_at t b m → x ≡ with_left (n.left - 1) (marks_to g m n) → x ≡ completed_to t c b p o m n
@@ -62,7 +63,7 @@ module _ (t c b p : ℕ) (n : Now) (m : Marks) (o : Obeyed) (x : Now) where
   completed_start v e y = rw e y
 
 module _ (b p : ℕ) (o : Obeyed) (ps qs : List ℕ) where
-  pub placed_stop : (k : ℕ) → o ≡ Stops k → ps ≡ completed_at b p o ps
+  pub placed_stop : (k : Ending) → o ≡ Stops k → ps ≡ completed_at b p o ps
   placed_stop k e = rw e
 
   pub placed_on : o ≡ Goes → qs ≡ set ps b (p + 1) → qs ≡ completed_at b p o ps
@@ -99,7 +100,7 @@ module _ (table inputs : List ℕ) (t base b p : ℕ) (e : End) (n : Now) (l : L
   pub ran_ended : e ≡ Ended → x ≡ ends_to t b n → RanTo l qs cs
   ran_ended q y = rw (q, y)
 
-  pub ran_stopped : (k : ℕ) → e ≡ Stopped k → x ≡ goes_to (Over k b p) n → RanTo l qs cs
+  pub ran_stopped : (k : Ending) → e ≡ Stopped k → x ≡ goes_to (Over k b p) n → RanTo l qs cs
   ran_stopped k q y = rw (q, y)
 
   pub ran_left : (l' : Lists) (es ds : List ℕ) → e ≡ Left → code x l' es ds ≡ completed t (length inputs) b p (obeyed t b (fields (get_or table (base + p) 0)) n inputs (kept n.marks l) cs (meaning_of (fields (get_or table (base + p) 0)).op)) n qs → RanTo l' es ds

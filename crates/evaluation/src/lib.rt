@@ -6,8 +6,9 @@ ghost use Rattle.kernel.specs.Search.{nth};
 ghost use Rattle.marks.specs.Marks.{first_asked};
 ghost use Rattle.turns.specs.Code.{choice_by, idle_or, evaluated, when_idle, settled};
 
+use ending::Ending;
 use marks::{Found, Marks};
-use turns::{Choice, Control, Now};
+use turns::{Control, Now};
 
 // The thread that a choice names.
 fn named(choice: u8) -> usize
@@ -16,22 +17,22 @@ fn named(choice: u8) -> usize
     choice as usize
 }
 
-// What the next choice comes to while a thread is runnable.
-fn next_choice(choices: &[u8], at: usize, marks: Marks) -> Choice
+// The thread that the next choice names while one is runnable, or why the run is over.
+fn next_choice(choices: &[u8], at: usize, marks: Marks) -> Result<u8, Ending>
     ensures { result ≡ choice_by (nth choices.now at) marks }
 {
     if choices.len() <= at {
-        return Choice::Refused(20);
+        return Err(Ending::NoChoiceLeft);
     }
     let c = choices[at];
     if marks::runnable(marks, named(c)) {
-        return Choice::Thread(c);
+        return Ok(c);
     }
-    Choice::Refused(21)
+    Err(Ending::NotRunnable)
 }
 
-// Where no thread is runnable the machine goes to `idle`, else the run is over with k.
-fn idle_or(n: Now, k: u8, idle: Control) -> Now
+// Where no thread is runnable the machine goes to `idle`, else the run is over for k.
+fn idle_or(n: Now, k: Ending, idle: Control) -> Now
     ensures { result ≡ idle_or k idle n }
 {
     let marks = n.marks;
@@ -50,7 +51,7 @@ fn evaluate(choices: &[u8], n: Now, idle: Control) -> Now
     let marks = n.marks;
     let choice = next_choice(choices, at, marks);
     match choice {
-        Choice::Thread(c) => Now {
+        Ok(c) => Now {
             control: Control::Runs(named(c) + 1),
             time: n.time,
             limit: n.limit,
@@ -60,7 +61,7 @@ fn evaluate(choices: &[u8], n: Now, idle: Control) -> Now
             taken: n.taken,
             marks: marks,
         },
-        Choice::Refused(k) => idle_or(n, k, idle),
+        Err(k) => idle_or(n, k, idle),
     }
 }
 

@@ -11,10 +11,12 @@ use Rattle.dues.specs.Codes.{due_time}
 use Rattle.marks.specs.Marks.{ended_by, finished_by}
 use Rattle.dues.specs.Dues.{over_code, due_in}
 use Rattle.phases.specs.Phases.{cleared_by, served_delta, served_time}
+use Rattle.ending.specs.declared.Ending.{Ending}
+use Rattle.ending.specs.declared.Ending.TheVariants.{NoStart, Limit}
 use Rattle.turns.specs.declared.Control.TheVariants.{UpdatePhase, Turn, Evaluation, Over}
 use Rattle.turns.specs.declared.Now.{Now}
 use Rattle.shows.specs.Shows.{Lists, lists}
-use Rattle.turns.specs.Code.{goes_to, marks_to, delta_to, delta_in, least_of, closed, moved_to, timed_by, served_by, phase_number, ends_to}
+use Rattle.turns.specs.Code.{goes_to, marks_to, delta_to, delta_in, least_of, closed, moved_to, timed_by, served_by, phase_ending, ends_to}
 
 -- The delta phase
 module _ (n : Now) (ws : List ℕ) where
@@ -52,19 +54,19 @@ module _ (ps ws es : List ℕ) (n : Now) (r : DueCode) (h : due_time r ≡ least
     served_on p w v x y z g = rw (← h, e, le-ltb n.limit t g, x, y, z)
 
 -- A body's end
-pub number_none : (v : ℕ) → v < 2 → 11 ≡ phase_number v
+pub number_none : (v : ℕ) → v < 2 → NoStart ≡ phase_ending v
 number_none zero h = refl
 number_none (suc zero) h = refl
 number_none (suc (suc v)) h = absurd (omega arith)
 
-pub number_limit : (v : ℕ) → 2 ≤ v → (v ≡ 2 → ⊥) → 10 ≡ phase_number v
+pub number_limit : (v : ℕ) → 2 ≤ v → (v ≡ 2 → ⊥) → Limit ≡ phase_ending v
 number_limit zero h g = absurd (omega arith)
 number_limit (suc zero) h g = absurd (omega arith)
 number_limit (suc (suc zero)) h g = absurd (g refl)
 number_limit (suc (suc (suc v))) h g = refl
 
 module _ (t b : ℕ) (n : Now) where
-  pub ends_main : (x : Now) (k : ℕ) → x ≡ goes_to (Over k 0xff 0) n → k ≡ phase_number n.stage → b ≡ 0 → x ≡ ends_to t b n
+  pub ends_main : (x : Now) (k : Ending) → x ≡ goes_to (Over k 0xff 0) n → k ≡ phase_ending n.stage → b ≡ 0 → x ≡ ends_to t b n
   unfolding ends_to
   ends_main x k y q e = rw (eq-eqb b 0 e, ← q) y
 

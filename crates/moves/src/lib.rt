@@ -3,9 +3,10 @@
 
 ghost use Rattle.std.specs.Prelude.{◌≡◌, []};
 ghost use Rattle.shows.specs.Shows.{lists};
-ghost use Rattle.turns.specs.Code.{delta_to, delta_in, least_of, closed, moved_to, timed_by, served_by, phase_number, ends_to};
+ghost use Rattle.turns.specs.Code.{delta_to, delta_in, least_of, closed, moved_to, timed_by, served_by, phase_ending, ends_to};
 
 use dues::Due;
+use ending::Ending;
 use marks::Marks;
 use turns::{Control, Now};
 
@@ -68,17 +69,17 @@ pub fn time_phase(n: Now, pends: &mut [u64], waits: &mut [u64], waiters: &mut [u
     move_to(n, t, served)
 }
 
-// 11, 0 or 10, by the stage.
-fn end_number(stage: u8) -> u8
-    ensures { result ≡ phase_number stage }
+// Why the run is over where main has come to its end.
+fn end_of(stage: u8) -> Ending
+    ensures { result ≡ phase_ending stage }
 {
     if stage < 2 {
-        return 11;
+        return Ending::NoStart;
     }
     if stage == 2 {
-        return 0;
+        return Ending::Quiet;
     }
-    10
+    Ending::Limit
 }
 
 // The end of body b.
@@ -86,7 +87,7 @@ pub fn end_body(n: Now, b: usize, threads: usize) -> Now
     ensures { result ≡ ends_to threads b n }
 {
     if b == 0 {
-        return turns::to(n, Control::Over(end_number(n.stage), 0xff, 0));
+        return turns::to(n, Control::Over(end_of(n.stage), 0xff, 0));
     }
     let marks = n.marks;
     if b <= threads {

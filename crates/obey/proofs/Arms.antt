@@ -18,6 +18,7 @@ use Rattle.dues.specs.Codes.{last_time, for_nothing, pend_of}
 use Rattle.marks.specs.Marks.{waits_on, waits_till, asked_for}
 use Rattle.dues.specs.Dues.{count_at, waits_at, changed, asked_code}
 use Rattle.waits.specs.Waits.{triggered}
+use Rattle.ending.specs.declared.Ending.TheVariants.{TooLate, OutOfPhase, NoInputLeft, TooManyDueTimes}
 use Rattle.turns.specs.declared.Obeyed.TheVariants.{Stops, Goes, Waits, Took, Begins}
 use Rattle.turns.specs.declared.Done.{Done}
 use Rattle.shows.specs.Shows.{Lists, lists, Kept, kept}
@@ -28,7 +29,7 @@ module _ (inputs : List ℕ) (k d : ℕ) (m : Marks) (cs : List ℕ) (r : Done) 
   abbrev Takes : List ℕ → Type 0
   Takes ds = did r.came (kept r.marks (lists [] [] [])) ds ≡ took_by (nth inputs k) d (kept m (lists [] [] [])) cs
 
-  pub took_none : length inputs ≤ k → r ≡ record { came = Stops 19; marks = m } → Takes cs
+  pub took_none : length inputs ≤ k → r ≡ record { came = Stops NoInputLeft; marks = m } → Takes cs
   took_none h e = rw (nth_past inputs k h, e)
 
   pub took_some : (ds : List ℕ) → k < length inputs → ds ≡ set cs d (get_or inputs k 0) → r ≡ record { came = Took; marks = m } → Takes ds
@@ -107,10 +108,10 @@ module _ (m : Marks) (ps : List ℕ) (e : ℕ) (z : Bool) (h : z ≡ has m.pendi
 
 -- A due time asked for: x is what is kept before it, y what it does
 module _ (adds : Bool) (q : ℕ) (x : Kept) (cs : List ℕ) (y : Did) where
-  due_late : last_time < q → did (Stops 17) x cs ≡ due_by adds q x cs y
+  due_late : last_time < q → did (Stops TooLate) x cs ≡ due_by adds q x cs y
   due_late h = rw (lt-ltb last_time q h)
 
-  due_full : (f : Bool) → q ≤ last_time → f ≡ full adds q x.lists → f ≡ true → did (Stops 23) x cs ≡ due_by adds q x cs y
+  due_full : (f : Bool) → q ≤ last_time → f ≡ full adds q x.lists → f ≡ true → did (Stops TooManyDueTimes) x cs ≡ due_by adds q x cs y
   due_full f h e g = rw (le-ltb last_time q h, ← e, g)
 
   due_done : (f : Bool) → q ≤ last_time → f ≡ full adds q x.lists → f ≡ false → y ≡ due_by adds q x cs y
@@ -131,11 +132,11 @@ module _ (t b q : ℕ) (m : Marks) (ps ws : List ℕ) (r : Done) where
   abbrev WaitsTill : List ℕ → Type 0
   WaitsTill w = did r.came (kept r.marks (lists ps w [])) [] ≡ due_by true q before [] afterwards
 
-  pub wait_late : last_time < q → r ≡ record { came = Stops 17; marks = m } → WaitsTill ws
+  pub wait_late : last_time < q → r ≡ record { came = Stops TooLate; marks = m } → WaitsTill ws
   wait_late h e = ap (λ (x : Done). done_in x (lists ps ws [])) e ∙ due_late true q before [] afterwards h
 
   module _ (f : Bool) (h : q ≤ last_time) (c : f ≡ full true q (lists ps ws [])) where
-    pub wait_full : f ≡ true → r ≡ record { came = Stops 23; marks = m } → WaitsTill ws
+    pub wait_full : f ≡ true → r ≡ record { came = Stops TooManyDueTimes; marks = m } → WaitsTill ws
     wait_full g e = ap (λ (x : Done). done_in x (lists ps ws [])) e ∙ due_full true q before [] afterwards f h c g
 
     module _ (g : f ≡ false) (z : Bool) (i : z ≡ is_thread t b) where
@@ -156,7 +157,7 @@ pub past_other : (b v : ℕ) → (b ≡ 0 → ⊥) → false ≡ is_past b v
 past_other b v e = rw (ne_eqb b 0 e)
 
 module _ (b v : ℕ) (f : Bool) (h : f ≡ is_past b v) (m : Marks) (r : Done) where
-  pub past_stops : (l : Lists) (d : Did) → f ≡ true → r ≡ record { came = Stops 18; marks = m } → did r.came (kept r.marks l) [] ≡ in_time b v (kept m l) [] d
+  pub past_stops : (l : Lists) (d : Did) → f ≡ true → r ≡ record { came = Stops OutOfPhase; marks = m } → did r.came (kept r.marks l) [] ≡ in_time b v (kept m l) [] d
   past_stops l d e y = rw (← h, e, y)
 
   module _ (e : f ≡ false) where
@@ -179,11 +180,11 @@ module _ (b v : ℕ) (f : Bool) (h : f ≡ is_past b v) (m : Marks) (r : Done) w
       abbrev Told : Did → Type 0
       Told x = x ≡ in_time b v was [] (due_by (adds_time d was) q was [] is)
 
-      pub after_late : last_time < q → r ≡ record { came = Stops 17; marks = m } → Told (did r.came (kept r.marks (lists ps ws [])) [])
+      pub after_late : last_time < q → r ≡ record { came = Stops TooLate; marks = m } → Told (did r.came (kept r.marks (lists ps ws [])) [])
       after_late g y = rw (← h, e, y) (due_late (adds_time d was) q was [] is g)
 
       module _ (a : Bool) (i : a ≡ adds_time d (kept m (lists ps [] []))) (g : q ≤ last_time) (z : Bool) (j : z ≡ full a q (lists ps ws [])) where
-        pub after_full : z ≡ true → r ≡ record { came = Stops 23; marks = m } → Told (did r.came (kept r.marks (lists ps ws [])) [])
+        pub after_full : z ≡ true → r ≡ record { came = Stops TooManyDueTimes; marks = m } → Told (did r.came (kept r.marks (lists ps ws [])) [])
         after_full c y = rw (← h, e, y) (due_full (adds_time d was) q was [] is z g (rw i at j) c)
 
         pub after_done : (p : List ℕ) (x : Marks) → z ≡ false → x ≡ asked_for q d m → p ≡ changed (asked_code (has m.pending d) q) d ps → r ≡ record { came = Goes; marks = x } → Told (did r.came (kept r.marks (lists p ws [])) [])
@@ -194,5 +195,5 @@ module _ (v x : ℕ) (m : Marks) (r : Done) where
   pub starts_first : v ≡ 0 → r ≡ record { came = Begins x; marks = m } → did r.came (kept r.marks (lists [] [] [])) [] ≡ starts_by v x (kept m (lists [] [] [])) []
   starts_first e y = rw (eq-eqb v 0 e, y)
 
-  pub starts_again : (v ≡ 0 → ⊥) → r ≡ record { came = Stops 18; marks = m } → did r.came (kept r.marks (lists [] [] [])) [] ≡ starts_by v x (kept m (lists [] [] [])) []
+  pub starts_again : (v ≡ 0 → ⊥) → r ≡ record { came = Stops OutOfPhase; marks = m } → did r.came (kept r.marks (lists [] [] [])) [] ≡ starts_by v x (kept m (lists [] [] [])) []
   starts_again e y = rw (ne_eqb v 0 e, y)

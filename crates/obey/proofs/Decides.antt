@@ -16,6 +16,7 @@ use Rattle.dues.specs.Codes.{last_time}
 use Rattle.dues.specs.Dues.{ask_code, waits_at}
 use Rattle.marks.specs.Marks.{waits_on, waits_till, requested_by, suspended, resumed}
 use Rattle.turns.specs.declared.Now.{Now}
+use Rattle.ending.specs.declared.Ending.TheVariants.{UnknownOp, TooLate, OutOfPhase, TooManyDueTimes}
 use Rattle.turns.specs.declared.Obeyed.TheVariants.{Stops, Goes, Begins}
 use Rattle.turns.specs.declared.Done.{Done}
 use Rattle.shows.specs.Shows.{Lists, lists, Kept, kept}
@@ -34,8 +35,8 @@ wide_if f cs false x y = refl
 
 wide_due : (f : Lists → Lists) (cs : List ℕ) (adds : Bool) (q : ℕ) (x : Kept) (y : Did) → full adds q x.lists ≡ full adds q (f x.lists) → wide f cs (due_by adds q x [] y) ≡ due_by adds q (wide_kept f x) cs (wide f cs y)
 wide_due f cs adds q x y e =
-    wide_if f cs (ltb last_time q) (did (Stops 17) x []) (if full adds q x.lists then did (Stops 23) x [] else y)
-    ∙ ap (if◌then◌else◌ (ltb last_time q) (did (Stops 17) (wide_kept f x) cs)) (wide_if f cs (full adds q x.lists) (did (Stops 23) x []) y ∙ rw e)
+    wide_if f cs (ltb last_time q) (did (Stops TooLate) x []) (if full adds q x.lists then did (Stops TooManyDueTimes) x [] else y)
+    ∙ ap (if◌then◌else◌ (ltb last_time q) (did (Stops TooLate) (wide_kept f x) cs)) (wide_if f cs (full adds q x.lists) (did (Stops TooManyDueTimes) x []) y ∙ rw e)
 
 -- the waits, too
 wide_on : (t b e : ℕ) (m : Marks) (ps ws es : List ℕ) → wide_kept (λ z. lists ps ws z.waiters) (waited_on t b e (kept m (lists [] [] es))) ≡ waited_on t b e (kept m (lists ps ws es))
@@ -132,21 +133,21 @@ module _ (t b : ℕ) (i : Frame) (n : Now) (inputs ps ws es cs : List ℕ) (r : 
     unfolding meaning_of obeyed
     obey_after p e x =
         rw (e, ← g, ← d)
-        (ap (wide all cs) x ∙ wide_if all cs (is_past b n.stage) (did (Stops 18) timed []) (due_by (adds_time i.d timed) q timed [] (did Goes (asked_in q i.d timed) []))
-        ∙ ap (if◌then◌else◌ (is_past b n.stage) (did (Stops 18) (kept m l) cs)) (wide_due all cs (adds_time i.d timed) q timed (did Goes (asked_in q i.d timed) []) refl))
+        (ap (wide all cs) x ∙ wide_if all cs (is_past b n.stage) (did (Stops OutOfPhase) timed []) (due_by (adds_time i.d timed) q timed [] (did Goes (asked_in q i.d timed) []))
+        ∙ ap (if◌then◌else◌ (is_past b n.stage) (did (Stops OutOfPhase) (kept m l) cs)) (wide_due all cs (adds_time i.d timed) q timed (did Goes (asked_in q i.d timed) []) refl))
 
   pub obey_notify : (p w : List ℕ) → i.op ≡ 0x62 → came (lists p [] w) ≡ in_time b n.stage (kept m (lists ps [] es)) [] (did Goes (triggered_in i.d (kept m (lists ps [] es))) []) → IsObeyed (came_in (lists p ws w))
   unfolding meaning_of obeyed
   obey_notify p w e x =
       rw e
       (ap (wide (λ z. lists z.pends ws z.waiters) cs) x
-      ∙ wide_if (λ z. lists z.pends ws z.waiters) cs (is_past b n.stage) (did (Stops 18) (kept m (lists ps [] es)) []) (did Goes (triggered_in i.d (kept m (lists ps [] es))) []))
+      ∙ wide_if (λ z. lists z.pends ws z.waiters) cs (is_past b n.stage) (did (Stops OutOfPhase) (kept m (lists ps [] es)) []) (did Goes (triggered_in i.d (kept m (lists ps [] es))) []))
 
   -- the marks alone change
   by_marks : (x : Marks) → came (lists [] [] []) ≡ in_time b n.stage (kept m (lists [] [] [])) [] (did Goes (kept x (lists [] [] [])) []) → came_in l ≡ in_time b n.stage (kept m l) cs (did Goes (kept x l) cs)
   by_marks x y =
       ap (wide (λ z. l) cs) y
-      ∙ wide_if (λ z. l) cs (is_past b n.stage) (did (Stops 18) (kept m (lists [] [] [])) []) (did Goes (kept x (lists [] [] [])) [])
+      ∙ wide_if (λ z. l) cs (is_past b n.stage) (did (Stops OutOfPhase) (kept m (lists [] [] [])) []) (did Goes (kept x (lists [] [] [])) [])
 
   pub obey_request : i.op ≡ 0x64 → came (lists [] [] []) ≡ in_time b n.stage (kept m (lists [] [] [])) [] (did Goes (marked (requested_by i.d) (kept m (lists [] [] []))) []) → IsObeyed (came_in l)
   unfolding meaning_of obeyed
@@ -163,7 +164,7 @@ module _ (t b : ℕ) (i : Frame) (n : Now) (inputs ps ws es cs : List ℕ) (r : 
   by_start : (v : ℕ) → came (lists [] [] []) ≡ starts_by n.stage v (kept m (lists [] [] [])) [] → came_in l ≡ starts_by n.stage v (kept m l) cs
   by_start v x =
       ap (wide (λ z. l) cs) x
-      ∙ wide_if (λ z. l) cs (eqb n.stage 0) (did (Begins v) (kept m (lists [] [] [])) []) (did (Stops 18) (kept m (lists [] [] [])) [])
+      ∙ wide_if (λ z. l) cs (eqb n.stage 0) (did (Begins v) (kept m (lists [] [] [])) []) (did (Stops OutOfPhase) (kept m (lists [] [] [])) [])
 
   pub obey_limit : i.op ≡ 0x67 → came (lists [] [] []) ≡ starts_by n.stage i.imm (kept m (lists [] [] [])) [] → IsObeyed (came_in l)
   unfolding meaning_of obeyed
@@ -173,7 +174,7 @@ module _ (t b : ℕ) (i : Frame) (n : Now) (inputs ps ws es cs : List ℕ) (r : 
   unfolding meaning_of obeyed
   obey_start e x = rw e (by_start 4294967296 x)
 
-  by_other : (k : Meaning) → T (other k) → did (Stops 4) (kept m l) cs ≡ obeyed t b i n inputs (kept m l) cs k
+  by_other : (k : Meaning) → T (other k) → did (Stops UnknownOp) (kept m l) cs ≡ obeyed t b i n inputs (kept m l) cs k
   unfolding obeyed
   by_other takes_imm o = refl
   by_other takes_input o = absurd o
@@ -196,7 +197,7 @@ module _ (t b : ℕ) (i : Frame) (n : Now) (inputs ps ws es cs : List ℕ) (r : 
   by_other start o = absurd o
   by_other unknown o = refl
 
-  pub obey_other : i.op < 256 → Rest (Unit {0}) singles i.op → r ≡ record { came = Stops 4; marks = m } → IsObeyed (came_in l)
+  pub obey_other : i.op < 256 → Rest (Unit {0}) singles i.op → r ≡ record { came = Stops UnknownOp; marks = m } → IsObeyed (came_in l)
   obey_other h o e =
       ap (λ (x : Done). did x.came (kept x.marks l) cs) e
       ∙ by_other (meaning_of i.op) (the_rest (λ k. other (meaning_of k)) singles [] every i.op h o tt)

@@ -8,6 +8,7 @@ ghost use Rattle.marks.specs.Marks.{requested_by, suspended, resumed};
 ghost use Rattle.shows.specs.Shows.{lists, kept};
 ghost use Rattle.turns.specs.Code.{is_thread, did, is_past, wait_came, waited_on, waited_till, triggered_in, asked_in, adds_time, full, due_by, took_by, in_time, starts_by, marked, obeyed};
 
+use ending::Ending;
 use frame::Frame;
 use image::Image;
 use marks::Marks;
@@ -46,7 +47,7 @@ fn take_input(d: usize, taken: usize, marks: Marks, inputs: &[u32], cells: &mut 
     ensures { did result.came (kept result.marks (lists [] [] [])) cells.new ≡ took_by (nth inputs.now taken) d (kept marks (lists [] [] [])) cells.old }
 {
     if inputs.len() <= taken {
-        return done(Obeyed::Stops(19), marks);
+        return done(Obeyed::Stops(Ending::NoInputLeft), marks);
     }
     put_cell(cells, d, inputs[taken]);
     done(Obeyed::Took, marks)
@@ -110,10 +111,10 @@ fn wait_time(
     ensures { did result.came (kept result.marks (lists pends.now waits.new [])) [] ≡ due_by true q (kept marks (lists pends.now waits.old [])) [] (did (wait_came threads b) (waited_till threads b q (kept marks (lists pends.now waits.old []))) []) }
 {
     if dues::LAST_TIME < q {
-        return done(Obeyed::Stops(17), marks);
+        return done(Obeyed::Stops(Ending::TooLate), marks);
     }
     if is_full(true, q, pends, waits) {
-        return done(Obeyed::Stops(23), marks);
+        return done(Obeyed::Stops(Ending::TooManyDueTimes), marks);
     }
     if is_thread(b, threads) {
         return done(Obeyed::Waits, waits::wait_time(marks, waits, b - 1, q));
@@ -143,7 +144,7 @@ fn notify(
     ensures { did result.came (kept result.marks (lists pends.new [] waiters.new)) [] ≡ in_time b stage (kept marks (lists pends.old [] waiters.old)) [] (did Obeyed.Goes (triggered_in d (kept marks (lists pends.old [] waiters.old))) []) }
 {
     if is_past(b, stage) {
-        return done(Obeyed::Stops(18), marks);
+        return done(Obeyed::Stops(Ending::OutOfPhase), marks);
     }
     done(Obeyed::Goes, waits::trigger(marks, pends, waiters, d))
 }
@@ -174,13 +175,13 @@ fn notify_after(
     ensures { did result.came (kept result.marks (lists pends.new waits.now [])) [] ≡ in_time b stage (kept marks (lists pends.old waits.now [])) [] (due_by (adds_time d (kept marks (lists pends.old waits.now []))) q (kept marks (lists pends.old waits.now [])) [] (did Obeyed.Goes (asked_in q d (kept marks (lists pends.old waits.now []))) [])) }
 {
     if is_past(b, stage) {
-        return done(Obeyed::Stops(18), marks);
+        return done(Obeyed::Stops(Ending::OutOfPhase), marks);
     }
     if dues::LAST_TIME < q {
-        return done(Obeyed::Stops(17), marks);
+        return done(Obeyed::Stops(Ending::TooLate), marks);
     }
     if is_full(adds_time(marks, pends, d), q, pends, waits) {
-        return done(Obeyed::Stops(23), marks);
+        return done(Obeyed::Stops(Ending::TooManyDueTimes), marks);
     }
     done(Obeyed::Goes, waits::notify_after(marks, pends, d, q))
 }
@@ -190,7 +191,7 @@ fn request(b: usize, stage: u8, d: usize, marks: Marks) -> Done
     ensures { did result.came (kept result.marks (lists [] [] [])) [] ≡ in_time b stage (kept marks (lists [] [] [])) [] (did Obeyed.Goes (marked (requested_by d) (kept marks (lists [] [] []))) []) }
 {
     if is_past(b, stage) {
-        return done(Obeyed::Stops(18), marks);
+        return done(Obeyed::Stops(Ending::OutOfPhase), marks);
     }
     done(Obeyed::Goes, marking::request(marks, d))
 }
@@ -200,7 +201,7 @@ fn suspend(b: usize, stage: u8, d: usize, marks: Marks) -> Done
     ensures { did result.came (kept result.marks (lists [] [] [])) [] ≡ in_time b stage (kept marks (lists [] [] [])) [] (did Obeyed.Goes (marked (suspended d) (kept marks (lists [] [] []))) []) }
 {
     if is_past(b, stage) {
-        return done(Obeyed::Stops(18), marks);
+        return done(Obeyed::Stops(Ending::OutOfPhase), marks);
     }
     done(Obeyed::Goes, marking::suspend(marks, d))
 }
@@ -210,7 +211,7 @@ fn resume(b: usize, stage: u8, d: usize, marks: Marks) -> Done
     ensures { did result.came (kept result.marks (lists [] [] [])) [] ≡ in_time b stage (kept marks (lists [] [] [])) [] (did Obeyed.Goes (marked (resumed d) (kept marks (lists [] [] []))) []) }
 {
     if is_past(b, stage) {
-        return done(Obeyed::Stops(18), marks);
+        return done(Obeyed::Stops(Ending::OutOfPhase), marks);
     }
     done(Obeyed::Goes, marking::resume(marks, d))
 }
@@ -222,7 +223,7 @@ fn begin(stage: u8, limit: u64, marks: Marks) -> Done
     if stage == 0 {
         return done(Obeyed::Begins(limit), marks);
     }
-    done(Obeyed::Stops(18), marks)
+    done(Obeyed::Stops(Ending::OutOfPhase), marks)
 }
 
 // An instruction of body b that is not plain: the one decision over the other op numbers.
@@ -269,6 +270,6 @@ pub fn obey(
         0x66 => resume(b, n.stage, d, m),
         0x67 => begin(n.stage, f.imm as u64, m),
         0x68 => begin(n.stage, 4294967296, m),
-        _ => done(Obeyed::Stops(4), m),
+        _ => done(Obeyed::Stops(Ending::UnknownOp), m),
     }
 }

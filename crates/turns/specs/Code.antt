@@ -1,5 +1,5 @@
 -- What the code makes of its numbers, turn by turn. Nothing public speaks of it: proofs/ shows that each turn is some steps of the machine.
-use Rattle.std.specs.Prelude.{ℕ, zero, suc, ◌+◌, ◌-◌, ◌%◌, Bool, true, false, not, ◌&&◌, List, [], ◌∷◌, map, eqb, ltb, leb, length, get_or, set, replicate, if◌then◌else◌}
+use Rattle.std.specs.Prelude.{ℕ, zero, suc, ◌+◌, ◌-◌, ◌%◌, Bool, true, false, not, ◌&&◌, List, [], ◌∷◌, map, eqb, ltb, leb, length, get_or, set, replicate, if◌then◌else◌, Result, Ok, Err}
 use Rattle.laws.specs.Choice.{between}
 use Rattle.frame.specs.declared.Frame.{Frame}
 use Rattle.frame.specs.Fields.{fields}
@@ -13,13 +13,14 @@ use Rattle.marks.specs.Marks.{may_run, any_runs, first_asked, not_ended, first_m
 use Rattle.dues.specs.Dues.{time_at, count_at, ask_code, waits_at, changed, asked_code, over_code, due_in}
 use Rattle.waits.specs.Waits.{triggered}
 use Rattle.phases.specs.Phases.{cleared_by, served_delta, served_time}
+use Rattle.ending.specs.declared.Ending.{Ending}
+use Rattle.ending.specs.declared.Ending.TheVariants.{Quiet, UnknownOp, Limit, NoStart, TooLate, OutOfPhase, NoInputLeft, NoChoiceLeft, NotRunnable, TooManyDueTimes}
+use Rattle.ending.specs.Ending.{number_of}
 use Rattle.plain.specs.declared.End.{End}
 use Rattle.plain.specs.declared.End.TheVariants.{Ended, Left, Stopped}
 use Rattle.plain.specs.Plain.{Out, run_plain}
 use Rattle.turns.specs.declared.Control.{Control}
 use Rattle.turns.specs.declared.Control.TheVariants.{Runs, UpdatePhase, DeltaPhase, Turn, Evaluation, TimePhase, Over}
-use Rattle.turns.specs.declared.Choice.{Choice}
-use Rattle.turns.specs.declared.Choice.TheVariants.{Thread, Refused}
 use Rattle.turns.specs.declared.Now.{Now}
 use Rattle.turns.specs.declared.Obeyed.{Obeyed}
 use Rattle.turns.specs.declared.Obeyed.TheVariants.{Stops, Goes, Waits, Took, Begins}
@@ -51,19 +52,19 @@ abbrev pub dispatch : ℕ → Now → Now
 dispatch c n = record { control = Runs (c + 1); time = n.time; limit = n.limit; stage = n.stage; left = n.left; chosen = n.chosen + 1; taken = n.taken; marks = n.marks }
 
 abbrev pub chosen_by : Found → Now → Now
-chosen_by none n = goes_to (Over 20 0xff 0) n
-chosen_by (found c) n = if may_run n.marks c then dispatch c n else goes_to (Over 21 0xff 0) n
+chosen_by none n = goes_to (Over NoChoiceLeft 0xff 0) n
+chosen_by (found c) n = if may_run n.marks c then dispatch c n else goes_to (Over NotRunnable 0xff 0) n
 
 -- and where no thread is runnable the machine goes to `idle`
 unfoldable pub evaluated : (choices : List ℕ) → (idle : Control) → Now → Now
 evaluated choices idle n = if any_runs n.marks then chosen_by (nth choices n.chosen) n else goes_to idle n
 
--- what the next choice comes to while a thread is runnable; and what follows where it stops the run with k
-abbrev pub choice_by : Found → Marks → Choice
-choice_by none m = Refused 20
-choice_by (found c) m = if may_run m c then Thread c else Refused 21
+-- what the next choice comes to while a thread is runnable; and what follows where the run is over for k
+abbrev pub choice_by : Found → Marks → Result ℕ Ending
+choice_by none m = Err NoChoiceLeft
+choice_by (found c) m = if may_run m c then Ok c else Err NotRunnable
 
-abbrev pub idle_or : (k : ℕ) → (idle : Control) → Now → Now
+abbrev pub idle_or : (k : Ending) → (idle : Control) → Now → Now
 idle_or k idle n = if any_runs n.marks then goes_to (Over k 0xff 0) n else goes_to idle n
 
 -- The update phase; t is the number of threads ----------------------------------------------------------------
@@ -115,11 +116,11 @@ served_by (found t) n l = if ltb n.limit t then l else served_at t l
 
 -- A body's end ------------------------------------------------------------------------------------------------
 
-abbrev pub phase_number : ℕ → ℕ
-phase_number zero = 11
-phase_number (suc zero) = 11
-phase_number (suc (suc zero)) = 0
-phase_number (suc (suc (suc n))) = 10
+abbrev pub phase_ending : ℕ → Ending
+phase_ending zero = NoStart
+phase_ending (suc zero) = NoStart
+phase_ending (suc (suc zero)) = Quiet
+phase_ending (suc (suc (suc n))) = Limit
 
 -- body b is thread b - 1 of t threads
 abbrev pub is_thread : (t b : ℕ) → Bool
@@ -127,7 +128,7 @@ is_thread t b = between 1 b t
 
 unfoldable pub ends_to : (t b : ℕ) → Now → Now
 ends_to t b n =
-    if eqb b 0 then goes_to (Over (phase_number n.stage) 0xff 0) n
+    if eqb b 0 then goes_to (Over (phase_ending n.stage) 0xff 0) n
     else (if leb b t then marks_to Evaluation (ended_by (b - 1) n.marks) n else marks_to UpdatePhase (finished_by (b - 1 - t) n.marks) n)
 
 -- An instruction that is not plain ------------------------------------------------------------------------------
@@ -179,18 +180,18 @@ full adds q l = not (eqb q 0) && (adds && leb 48 (times_in l))
 -- a due time q is asked for: 17, then 23, then what it does
 abbrev pub due_by : (adds : Bool) → (q : ℕ) → Kept → List ℕ → Did → Did
 due_by adds q x cs d =
-    if ltb last_time q then did (Stops 17) x cs else (if full adds q x.lists then did (Stops 23) x cs else d)
+    if ltb last_time q then did (Stops TooLate) x cs else (if full adds q x.lists then did (Stops TooManyDueTimes) x cs else d)
 
 abbrev pub took_by : Found → ℕ → Kept → List ℕ → Did
-took_by none d x cs = did (Stops 19) x cs
+took_by none d x cs = did (Stops NoInputLeft) x cs
 took_by (found v) d x cs = did Took x (set cs d v)
 
 -- 18 comes before what the instruction itself answers
 abbrev pub in_time : (b stage : ℕ) → Kept → List ℕ → Did → Did
-in_time b stage x cs d = if is_past b stage then did (Stops 18) x cs else d
+in_time b stage x cs d = if is_past b stage then did (Stops OutOfPhase) x cs else d
 
 abbrev pub starts_by : (stage limit : ℕ) → Kept → List ℕ → Did
-starts_by stage limit x cs = if eqb stage 0 then did (Begins limit) x cs else did (Stops 18) x cs
+starts_by stage limit x cs = if eqb stage 0 then did (Begins limit) x cs else did (Stops OutOfPhase) x cs
 
 -- the marks alone changed
 abbrev pub marked : (Marks → Marks) → Kept → Kept
@@ -212,16 +213,16 @@ module _ (t b : ℕ) (i : Frame) (n : Now) (inputs : List ℕ) (x : Kept) (cs : 
   obeyed resume = in_time b n.stage x cs (did Goes (marked (resumed i.d) x) cs)
   obeyed start_limit = starts_by n.stage i.imm x cs
   obeyed start = starts_by n.stage 4294967296 x cs
-  obeyed takes_imm = did (Stops 4) x cs
-  obeyed (one f) = did (Stops 4) x cs
-  obeyed (two f) = did (Stops 4) x cs
-  obeyed (may f) = did (Stops 4) x cs
-  obeyed load = did (Stops 4) x cs
-  obeyed store = did (Stops 4) x cs
-  obeyed goto = did (Stops 4) x cs
-  obeyed goto_if = did (Stops 4) x cs
-  obeyed (holds k) = did (Stops 4) x cs
-  obeyed unknown = did (Stops 4) x cs
+  obeyed takes_imm = did (Stops UnknownOp) x cs
+  obeyed (one f) = did (Stops UnknownOp) x cs
+  obeyed (two f) = did (Stops UnknownOp) x cs
+  obeyed (may f) = did (Stops UnknownOp) x cs
+  obeyed load = did (Stops UnknownOp) x cs
+  obeyed store = did (Stops UnknownOp) x cs
+  obeyed goto = did (Stops UnknownOp) x cs
+  obeyed goto_if = did (Stops UnknownOp) x cs
+  obeyed (holds k) = did (Stops UnknownOp) x cs
+  obeyed unknown = did (Stops UnknownOp) x cs
 
 -- does the body that ran go on where it does not wait: a thread that has suspended itself does not
 unfoldable pub stays_at : (t b : ℕ) → Marks → Control
@@ -354,10 +355,10 @@ zeroed (suc n) (x ∷ cs) = 0 ∷ zeroed n cs
 
 -- What is told at the end ---------------------------------------------------------------------------------------
 
--- the answer of a run that is over with number k, body b and place p, had it this budget; its fields have 32 bits
-abbrev pub answer_as : (budget : ℕ) → Now → (k b p : ℕ) → Told
+-- the answer of a run that is over for k, in body b at place p, had it this budget; its fields have 32 bits
+abbrev pub answer_as : (budget : ℕ) → Now → (k : Ending) → (b p : ℕ) → Told
 answer_as budget n k b p = record {
-  number = k;
+  number = number_of k;
   body = b % 4294967296;
   place = p % 4294967296;
   time = n.time;
@@ -373,12 +374,12 @@ refused_at n i = record { number = n; body = 0xff; place = i % 4294967296; time 
 -- (a run is over when it is told, so the other cases never arise)
 abbrev pub answer_from : (budget : ℕ) → Now → Control → Told
 answer_from budget n (Over k b p) = answer_as budget n k b p
-answer_from budget n (Runs b) = answer_as budget n 0 0 0
-answer_from budget n UpdatePhase = answer_as budget n 0 0 0
-answer_from budget n DeltaPhase = answer_as budget n 0 0 0
-answer_from budget n Turn = answer_as budget n 0 0 0
-answer_from budget n Evaluation = answer_as budget n 0 0 0
-answer_from budget n TimePhase = answer_as budget n 0 0 0
+answer_from budget n (Runs b) = answer_as budget n Quiet 0 0
+answer_from budget n UpdatePhase = answer_as budget n Quiet 0 0
+answer_from budget n DeltaPhase = answer_as budget n Quiet 0 0
+answer_from budget n Turn = answer_as budget n Quiet 0 0
+answer_from budget n Evaluation = answer_as budget n Quiet 0 0
+answer_from budget n TimePhase = answer_as budget n Quiet 0 0
 
 unfoldable pub answered : (budget : ℕ) → Now → Told
 answered budget n = answer_from budget n n.control

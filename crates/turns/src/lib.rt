@@ -5,9 +5,10 @@
 ghost use Rattle.std.specs.Prelude.{◌≡◌};
 ghost use Rattle.turns.specs.Code.{goes_to, marks_to};
 
+use ending::Ending;
 use marks::Marks;
 
-// Where the machine stands: body b runs, a phase, the turn to evaluation or time, or the run is over with number, body and place.
+// Where the machine stands: body b runs, a phase, the turn to evaluation or time, or the run is over: why, in which body and at which place.
 #[derive(Clone, Copy)]
 pub enum Control {
     Runs(usize),
@@ -16,7 +17,7 @@ pub enum Control {
     Turn,
     Evaluation,
     TimePhase,
-    Over(u8, usize, usize),
+    Over(Ending, usize, usize),
 }
 
 // All of the machine and the kernel that is a single number. The limit is 2^32 where there is none; the stage is 0 before the
@@ -33,18 +34,11 @@ pub struct Now {
     pub marks: Marks,
 }
 
-// What the next choice comes to while a thread is runnable: the thread that is dispatched, or the number that the run stops with.
-#[derive(Clone, Copy)]
-pub enum Choice {
-    Thread(u8),
-    Refused(u8),
-}
-
 // What an instruction that is not plain came to: it stops the run, goes on, makes its thread wait, took an input, or begins the phase with
 // a limit.
 #[derive(Clone, Copy)]
 pub enum Obeyed {
-    Stops(u8),
+    Stops(Ending),
     Goes,
     Waits,
     Took,
