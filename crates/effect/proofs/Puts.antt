@@ -10,6 +10,7 @@ use mir.ValLaws.{to_z-of_z}
 use Rattle.word.specs.Word.{signed, narrow, bits_of}
 use Rattle.word.specs.TwosComplement.{in_range_lem, out_of_range}
 use Rattle.word.proofs.Operands.{Roomy, exact}
+use Rattle.ending.specs.declared.Ending.TheVariants.{OutOfRange}
 use Rattle.effect.specs.declared.Eff.{Eff}
 use Rattle.effect.specs.declared.Eff.TheVariants.{Put, Stop}
 use Rattle.effect.specs.Parts.{put_of}
@@ -28,7 +29,7 @@ module _ (d : ℕ) (s : ℤ) (fits : SFits w64 s) where
       let r : n ≡ bits_of 32 s = q ∙ ap (λ (y : ℤ). bits_of 32 (to_z w32 (of_z w32 y))) (e ∙ z) ∙ ap (bits_of 32) (to_z-of_z w32 s g) in
       rw (in_range_lem 32 s g.sfits, r)
 
-  pub out_of_cells : (SFits w32 (to_z w64 (of_z w64 s)) → ⊥) → Stop 15 ≡ put_of d (narrow 32 s)
+  pub out_of_cells : (SFits w32 (to_z w64 (of_z w64 s)) → ⊥) → Stop OutOfRange ≡ put_of d (narrow 32 s)
   unfolding narrow
   out_of_cells f =
       let z : to_z w64 (of_z w64 s) ≡ s = to_z-of_z w64 s fits in

@@ -6,16 +6,17 @@ ghost use Rattle.word.specs.Word.{narrow, add_s, sub_s, mul_s};
 ghost use Rattle.word.specs.Said.{said};
 ghost use Rattle.effect.specs.Parts.{put_of, jump_of};
 
+use ending::Ending;
 use word::ArithmeticError;
 
 // What a plain instruction comes to, at whatever place it stands: a cell takes a value and the body goes on at the next place; the
-// body just goes on there; it goes on elsewhere; the run stops with a number; or the instruction is not plain.
+// body just goes on there; it goes on elsewhere; the run stops; or the instruction is not plain.
 #[derive(Clone, Copy)]
 pub enum Eff {
     Put(usize, u32),
     Next,
     Go(usize),
-    Stop(u8),
+    Stop(Ending),
     Leave,
 }
 
@@ -26,8 +27,7 @@ pub fn put(d: usize, r: Result<u32, ArithmeticError>) -> Eff
 {
     match r {
         Ok(x) => Eff::Put(d, x),
-        Err(ArithmeticError::ZeroDivisor) => Eff::Stop(14),
-        Err(ArithmeticError::OutOfRange) => Eff::Stop(15),
+        Err(e) => Eff::Stop(Ending::from(e)),
     }
 }
 
@@ -39,7 +39,7 @@ fn put_signed(d: usize, s: i64) -> Eff
 {
     match i32::try_from(s) {
         Ok(s) => Eff::Put(d, signed::as_cell(s)),
-        Err(_) => Eff::Stop(15),
+        Err(_) => Eff::Stop(Ending::OutOfRange),
     }
 }
 

@@ -7,7 +7,7 @@ use native.Mathlib.Omega.{arith}
 use borrow.Author.Tests.{not-true, ltb-true, ne_eqb}
 use lib.Dec.{ltb}
 use lib.ListN.{length, get_or}
-use Rattle.std.specs.Prelude.{if◌then◌else◌}
+use Rattle.std.specs.Prelude.{if◌then◌else◌, Result, Ok, Err}
 use Rattle.laws.specs.Choice.{and_left, and_right}
 use Rattle.kernel.specs.Search.{Found, none, found, nth}
 use Rattle.kernel.proofs.Search.{nth_some, nth_past, nth_at}
@@ -17,19 +17,20 @@ use Rattle.marks.specs.declared.Marks.{Marks}
 use Rattle.marks.specs.Marks.{idle, may_run, any_runs, first_asked}
 use Rattle.turns.specs.declared.Control.{Control}
 use Rattle.turns.specs.declared.Control.TheVariants.{Runs, UpdatePhase, DeltaPhase, Turn, Evaluation, TimePhase, Over}
-use Rattle.std.specs.Prelude.{Result, Ok, Err}
+use Rattle.ending.specs.declared.Ending.{Ending}
+use Rattle.ending.specs.declared.Ending.TheVariants.{NoChoiceLeft, NotRunnable}
 use Rattle.turns.specs.declared.Now.{Now}
 use Rattle.turns.specs.Code.{goes_to, dispatch, chosen_by, choice_by, idle_or, evaluated, when_idle, settled_from, settled}
 
 module _ (choices : List ℕ) (at : ℕ) (m : Marks) where
-  pub choice_none : length choices ≤ at → Err 20 ≡ choice_by (nth choices at) m
+  pub choice_none : length choices ≤ at → Err NoChoiceLeft ≡ choice_by (nth choices at) m
   choice_none g = rw (nth_past choices at g)
 
   module _ (g : at < length choices) (c : ℕ) (q : c ≡ get_or choices at 0) (b : Bool) (f : b ≡ may_run m c) where
     pub choice_taken : b ≡ true → Ok (get_or choices at 0) ≡ choice_by (nth choices at) m
     choice_taken r = rw (nth_at choices at g, ← q, ← f, r)
 
-    pub choice_refused : b ≡ false → Err 21 ≡ choice_by (nth choices at) m
+    pub choice_refused : b ≡ false → Err NotRunnable ≡ choice_by (nth choices at) m
     choice_refused r = rw (nth_at choices at g, ← q, ← f, r)
 
 -- a thread that may run is one of them
@@ -38,7 +39,7 @@ unfolding may_run any_runs
 one_of_lem m c e =
     rw (ne_eqb (idle m % 4294967296) 4294967295 (not_full (idle m) c (ltb-true c 32 (and_left (ltb c 32) _ e)) (not-true (has (idle m) c) (and_right (ltb c 32) _ e))))
 
-module _ (choices : List ℕ) (n : Now) (r : Result ℕ ℕ) (h : r ≡ choice_by (nth choices n.chosen) n.marks) where
+module _ (choices : List ℕ) (n : Now) (r : Result ℕ Ending) (h : r ≡ choice_by (nth choices n.chosen) n.marks) where
   pub choice_there : (c : ℕ) → r ≡ Ok c → n.chosen < length choices
   choice_there c e = by (nth choices n.chosen) refl (sym h ∙ e)
     where
@@ -52,7 +53,7 @@ module _ (choices : List ℕ) (n : Now) (r : Result ℕ ℕ) (h : r ≡ choice_b
   unfolding evaluated
   evaluated_chosen to c d e q = ap (λ (i : ℕ). dispatch i n) q ∙ by (nth choices n.chosen) refl (sym h ∙ e)
     where
-      named : (d : ℕ) (z : Bool) → may_run n.marks d ≡ z → if◌then◌else◌ {A = Result ℕ ℕ} z (Ok d) (Err 21) ≡ Ok c → dispatch c n ≡ (if any_runs n.marks then (if z then dispatch d n else goes_to (Over 21 0xff 0) n) else goes_to to n)
+      named : (d : ℕ) (z : Bool) → may_run n.marks d ≡ z → if◌then◌else◌ {A = Result ℕ Ending} z (Ok d) (Err NotRunnable) ≡ Ok c → dispatch c n ≡ (if any_runs n.marks then (if z then dispatch d n else goes_to (Over NotRunnable 0xff 0) n) else goes_to to n)
       named d true q y = rw (one_of_lem n.marks d q) (ap (λ (i : ℕ). dispatch i n) cc)
       named d false q y = cc
 
@@ -60,16 +61,16 @@ module _ (choices : List ℕ) (n : Now) (r : Result ℕ ℕ) (h : r ≡ choice_b
       by none g y = cc
       by (found d) g y = named d (may_run n.marks d) refl y
 
-  pub evaluated_refused : (to : Control) (k : ℕ) (x : Now) → r ≡ Err k → x ≡ idle_or k to n → x ≡ evaluated choices to n
+  pub evaluated_refused : (to : Control) (k : Ending) (x : Now) → r ≡ Err k → x ≡ idle_or k to n → x ≡ evaluated choices to n
   unfolding evaluated
   evaluated_refused to k x e y = y ∙ by (nth choices n.chosen) refl (sym h ∙ e)
     where
-      named : (d : ℕ) (z : Bool) → if◌then◌else◌ {A = Result ℕ ℕ} z (Ok d) (Err 21) ≡ Err k → (if z then dispatch d n else goes_to (Over 21 0xff 0) n) ≡ goes_to (Over k 0xff 0) n
+      named : (d : ℕ) (z : Bool) → if◌then◌else◌ {A = Result ℕ Ending} z (Ok d) (Err NotRunnable) ≡ Err k → (if z then dispatch d n else goes_to (Over NotRunnable 0xff 0) n) ≡ goes_to (Over k 0xff 0) n
       named d true y = cc
-      named d false y = ap (λ (i : ℕ). goes_to (Over i 0xff 0) n) cc
+      named d false y = ap (λ (i : Ending). goes_to (Over i 0xff 0) n) cc
 
       by : (f : Found) → nth choices n.chosen ≡ f → choice_by f n.marks ≡ Err k → idle_or k to n ≡ (if any_runs n.marks then chosen_by f n else goes_to to n)
-      by none g y = ap (λ (i : ℕ). idle_or i to n) cc
+      by none g y = ap (λ (i : Ending). idle_or i to n) cc
       by (found d) g y = ap (λ (w : Now). if any_runs n.marks then w else goes_to to n) (sym (named d (may_run n.marks d) y))
 
 pub ruleset evaluated_laws = (evaluated_chosen, evaluated_refused)

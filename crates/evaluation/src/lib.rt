@@ -6,26 +6,27 @@ ghost use Rattle.kernel.specs.Search.{nth};
 ghost use Rattle.marks.specs.Marks.{first_asked};
 ghost use Rattle.turns.specs.Code.{choice_by, idle_or, evaluated, when_idle, settled};
 
+use ending::Ending;
 use marks::Marks;
 use turns::{Control, Now};
 
-// What the next choice comes to while a thread is runnable.
+// The thread that the next choice names while one is runnable, or why the run is over.
 #[tactic(auto, using(crate::proofs::Arms::choice_none, crate::proofs::Arms::choice_taken, crate::proofs::Arms::choice_refused))]
-fn next_choice(choices: &[u8], at: usize, marks: Marks) -> Result<u8, u8>
+fn next_choice(choices: &[u8], at: usize, marks: Marks) -> Result<u8, Ending>
     ensures { result ≡ choice_by (nth choices.now at) marks }
 {
     if choices.len() <= at {
-        return Err(20);
+        return Err(Ending::NoChoiceLeft);
     }
     let c = choices[at];
     if marks.is_runnable(usize::from(c)) {
         return Ok(c);
     }
-    Err(21)
+    Err(Ending::NotRunnable)
 }
 
-// Where no thread is runnable the machine goes to `idle`, else the run is over with k.
-fn idle_or(n: Now, k: u8, idle: Control) -> Now
+// Where no thread is runnable the machine goes to `idle`, else the run is over for k.
+fn idle_or(n: Now, k: Ending, idle: Control) -> Now
     ensures { result ≡ idle_or k idle n }
 {
     if n.marks.any_runnable() {

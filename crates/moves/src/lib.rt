@@ -4,8 +4,9 @@
 ghost use Rattle.std.specs.Prelude.{◌≡◌, []};
 ghost use Rattle.dues.specs.Codes.{due_time};
 ghost use Rattle.shows.specs.Shows.{lists};
-ghost use Rattle.turns.specs.Code.{lists_of, delta_to, delta_in, least_of, is_beyond, timed_by, served_by, phase_number, ends_to};
+ghost use Rattle.turns.specs.Code.{lists_of, delta_to, delta_in, least_of, is_beyond, timed_by, served_by, phase_ending, ends_to};
 
+use ending::Ending;
 use turns::{Control, Now, Stage, State};
 
 // The delta phase: all delta work is done together.
@@ -53,14 +54,14 @@ pub fn time_phase(n: Now, s: &mut State<'_>) -> Now
     }
 }
 
-// The number that the run ends with, by the stage.
-fn end_number(stage: Stage) -> u8
-    ensures { result ≡ phase_number stage }
+// Why a run is over when main ends, by the stage.
+fn ending_of(stage: Stage) -> Ending
+    ensures { result ≡ phase_ending stage }
 {
     match stage {
-        Stage::Before | Stage::During => 11,
-        Stage::Quiet => 0,
-        Stage::Limited => 10,
+        Stage::Before | Stage::During => Ending::NoStart,
+        Stage::Quiet => Ending::Quiet,
+        Stage::Limited => Ending::Limit,
     }
 }
 
@@ -70,7 +71,7 @@ pub fn end_body(n: Now, b: usize, threads: usize) -> Now
     ensures { result ≡ ends_to threads b n }
 {
     if b == 0 {
-        return n.to(Control::Over(end_number(n.stage), 0xff, 0));
+        return n.to(Control::Over(ending_of(n.stage), 0xff, 0));
     }
     if b <= threads {
         return n.to_marks(Control::Evaluation, n.marks.end(b - 1));

@@ -14,15 +14,17 @@ use Rattle.kernel.proofs.Search.{nth_past, nth_at}
 use Rattle.dues.specs.Codes.{pend_of}
 use Rattle.dues.specs.Dues.{count_at}
 use Rattle.shows.specs.Shows.{lists}
+use Rattle.ending.specs.declared.Ending.{Ending}
+use Rattle.ending.specs.declared.Ending.TheVariants.{NoInputLeft}
 use Rattle.obey.specs.Tests.{input_by}
 use Rattle.turns.specs.Code.{full}
 
 -- Inputs
 module _ (inputs : List ℕ) (k : ℕ) where
-  pub input_none : length inputs ≤ k → ◌≡◌ {A = Result ℕ ℕ} (Err 19) (input_by (nth inputs k))
+  pub input_none : length inputs ≤ k → ◌≡◌ {A = Result ℕ Ending} (Err NoInputLeft) (input_by (nth inputs k))
   input_none h = rw (nth_past inputs k h)
 
-  pub input_some : k < length inputs → ◌≡◌ {A = Result ℕ ℕ} (Ok (get_or inputs k 0)) (input_by (nth inputs k))
+  pub input_some : k < length inputs → ◌≡◌ {A = Result ℕ Ending} (Ok (get_or inputs k 0)) (input_by (nth inputs k))
   input_some h = rw (nth_at inputs k h)
 
 -- of so many no more stand

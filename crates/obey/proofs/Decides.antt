@@ -7,6 +7,7 @@ use lib.Dec.{T}
 use Rattle.laws.specs.Span.{Arm, AllTold, Rest, the_rest}
 use Rattle.frame.specs.declared.Frame.{Frame}
 use Rattle.frame.specs.Ops.{Meaning, takes_imm, takes_input, one, two, may, load, store, goto, goto_if, holds, wait_event, wait_time, notify, notify_after, request, suspend, resume, start_limit, start, unknown, meaning_of}
+use Rattle.ending.specs.declared.Ending.TheVariants.{UnknownOp}
 use Rattle.turns.specs.declared.Now.{Now}
 use Rattle.shows.specs.Shows.{Lists, Kept, kept}
 use Rattle.turns.specs.Code.{stopped, obeyed}
@@ -46,7 +47,7 @@ module _ (t b : ℕ) (i : Frame) (n : Now) (inputs : List ℕ) (l : Lists) (cs :
   abbrev x : Kept
   x = kept n.marks l
 
-  by_other : (k : Meaning) → T (other k) → stopped 4 x cs ≡ obeyed t b i n inputs x cs k
+  by_other : (k : Meaning) → T (other k) → stopped UnknownOp x cs ≡ obeyed t b i n inputs x cs k
   unfolding obeyed
   by_other takes_imm o = refl
   by_other takes_input o = absurd o
@@ -69,5 +70,5 @@ module _ (t b : ℕ) (i : Frame) (n : Now) (inputs : List ℕ) (l : Lists) (cs :
   by_other start o = absurd o
   by_other unknown o = refl
 
-  pub obey_other : i.op < 256 → Rest (Unit {0}) singles i.op → stopped 4 x cs ≡ obeyed t b i n inputs x cs (meaning_of i.op)
+  pub obey_other : i.op < 256 → Rest (Unit {0}) singles i.op → stopped UnknownOp x cs ≡ obeyed t b i n inputs x cs (meaning_of i.op)
   obey_other h o = by_other (meaning_of i.op) (the_rest (λ k. other (meaning_of k)) singles [] every i.op h o tt)

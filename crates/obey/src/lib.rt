@@ -8,6 +8,7 @@ ghost use Rattle.shows.specs.Shows.{kept};
 ghost use Rattle.turns.specs.Code.{lists_of, kept_of, threads_of, is_thread, did_of, wait_came, waited_on, waited_till, adds_time, full, obeyed};
 ghost use Rattle.obey.specs.Tests.{input_by, may_ask, may_begin, has_room};
 
+use ending::Ending;
 use frame::Frame;
 use image::Image;
 use marks::Marks;
@@ -25,11 +26,11 @@ fn goes(marks: Marks) -> Done
 
 // The next input.
 #[tactic(auto, using(crate::proofs::Arms::input_none, crate::proofs::Arms::input_some))]
-fn input_at(inputs: &[u32], taken: usize) -> Result<u32, u8>
+fn input_at(inputs: &[u32], taken: usize) -> Result<u32, Ending>
     ensures { result ≡ input_by (nth inputs.now taken) }
 {
     if inputs.len() <= taken {
-        return Err(19);
+        return Err(Ending::NoInputLeft);
     }
     Ok(inputs[taken])
 }
@@ -92,34 +93,34 @@ fn is_full(adds: bool, q: u64, s: &State<'_>) -> bool
 }
 
 // Whether a due time q can be asked for.
-fn has_room(adds: bool, q: u64, s: &State<'_>) -> Result<(), u8>
+fn has_room(adds: bool, q: u64, s: &State<'_>) -> Result<(), Ending>
     ensures { result ≡ has_room adds q (lists_of s.now) }
 {
     if dues::LAST_TIME < q {
-        return Err(17);
+        return Err(Ending::TooLate);
     }
     if is_full(adds, q, s) {
-        return Err(23);
+        return Err(Ending::TooManyDueTimes);
     }
     Ok(())
 }
 
 // Main after the phase may ask nothing of the kernel.
-fn may_ask(b: usize, stage: Stage) -> Result<(), u8>
+fn may_ask(b: usize, stage: Stage) -> Result<(), Ending>
     ensures { result ≡ may_ask b stage }
 {
     if b == 0 && matches!(stage, Stage::Quiet | Stage::Limited) {
-        return Err(18);
+        return Err(Ending::OutOfPhase);
     }
     Ok(())
 }
 
 // Main begins the phase once.
-fn may_begin(stage: Stage) -> Result<(), u8>
+fn may_begin(stage: Stage) -> Result<(), Ending>
     ensures { result ≡ may_begin stage }
 {
     let Stage::Before = stage else {
-        return Err(18);
+        return Err(Ending::OutOfPhase);
     };
     Ok(())
 }
@@ -140,7 +141,7 @@ pub fn obey(
     inputs: &[u32],
     s: &mut State<'_>,
     cells: &mut [u32],
-) -> Result<Done, u8>
+) -> Result<Done, Ending>
     ensures value { did_of result n s.new cells.new ≡ obeyed (threads_of s.old) b f n inputs.now (kept_of n s.old) cells.old (meaning_of f.op) }
     ensures places_stay { s.new.places.now ≡ s.old.places.now }
 {
@@ -197,6 +198,6 @@ pub fn obey(
                 marks: m,
             })
         }
-        _ => Err(4),
+        _ => Err(Ending::UnknownOp),
     }
 }

@@ -11,10 +11,11 @@ use lib.ListN.{length, get_or, set, take, drop, length-drop}
 use lib.Seq.{length-take-le, get_or-take, get_or-drop}
 use Rattle.frame.specs.declared.Frame.{Frame}
 use Rattle.frame.specs.Fields.{fields}
+use Rattle.ending.specs.declared.Ending.{Ending}
+use Rattle.ending.specs.declared.Ending.TheVariants.{UnknownOp, NoBudgetLeft}
 use Rattle.effect.specs.declared.Eff.{Eff}
 use Rattle.effect.specs.declared.Eff.TheVariants.{Put, Next, Go, Stop, Leave}
 use Rattle.plain.specs.declared.End.TheVariants.{Ended, Left, Stopped}
-use Rattle.plain.specs.declared.Ran.{Ran}
 use Rattle.plain.specs.Plain.{Out, out, when, after, plain_effect, Comes, plain, able, run_plain}
 
 module _ (t : List ℕ) (len : ℕ) (o : Out) (p x : ℕ) (cs : List ℕ) (inv : plain x t 0 len p cs ≡ o) where
@@ -26,11 +27,11 @@ module _ (t : List ℕ) (len : ℕ) (o : Out) (p x : ℕ) (cs : List ℕ) (inv :
       by zero e = rw (le-ltb p len h) at e
       by (suc x) e = rw (le-ltb p len h) at e
 
-  pub loop_spent : p < len → x ≡ 0 → out (Stopped 22) p x cs ≡ o
+  pub loop_spent : p < len → x ≡ 0 → out (Stopped NoBudgetLeft) p x cs ≡ o
   unfolding plain
   loop_spent h z = by x z inv
     where
-      by : (x : ℕ) → x ≡ 0 → plain x t 0 len p cs ≡ o → out (Stopped 22) p x cs ≡ o
+      by : (x : ℕ) → x ≡ 0 → plain x t 0 len p cs ≡ o → out (Stopped NoBudgetLeft) p x cs ≡ o
       by zero z e = rw (lt-ltb p len h) at e
       by (suc x) z e = absurd (omega arith)
 
@@ -45,7 +46,7 @@ module _ (t : List ℕ) (len : ℕ) (o : Out) (p x : ℕ) (cs : List ℕ) (inv :
             let m : suc x - 1 ≡ x = omega arith in
             rw m (rw (lt-ltb p len h) at e)
 
-    pub loop_stops : (n : ℕ) → f ≡ Stop n → out (Stopped n) p x cs ≡ o
+    pub loop_stops : (n : Ending) → f ≡ Stop n → out (Stopped n) p x cs ≡ o
     loop_stops n e = turned (Stop n) (rw e at (g p))
 
     pub loop_leaves : f ≡ Leave → out Left p x cs ≡ o
@@ -63,33 +64,27 @@ module _ (t : List ℕ) (len : ℕ) (o : Out) (p x : ℕ) (cs : List ℕ) (inv :
 pub ruleset loop_laws = (loop_ended, loop_spent, loop_stops, loop_leaves, loop_nexts, loop_goes, loop_puts)
 
 -- where the body does not lie in the table, or the cells are too few
-module _ (budget : ℕ) (t : List ℕ) (base len from : ℕ) (cs : List ℕ) (r : Ran) (e : r ≡ record { end = Stopped 4; place = from; left = budget }) where
-  abbrev Is : Type 0
-  Is = record { ran = r; cells = cs } ≡ run_plain budget t base len from cs
+module _ (budget : ℕ) (t : List ℕ) (base len from : ℕ) (cs : List ℕ) where
+  abbrev Stops : Type 0
+  Stops = record { ran = record { end = Stopped UnknownOp; place = from; left = budget }; cells = cs } ≡ run_plain budget t base len from cs
 
-  not_able : able t base len cs ≡ false → Is
+  not_able : able t base len cs ≡ false → Stops
   unfolding run_plain
-  not_able q = rw (q, e)
+  not_able q = rw q
 
-  both : (a b : Bool) → a && (false && b) ≡ false
-  both true b = refl
-  both false b = refl
+  first_two : (a b c : Bool) → a && b ≡ false → a && (b && c) ≡ false
+  first_two true b c e = rw e
+  first_two false b c e = refl
 
   last : (a b : Bool) → a && (b && false) ≡ false
   last true true = refl
   last true false = refl
   last false b = refl
 
-  pub plain_long : 1024 < len → Is
-  plain_long h = not_able (rw (lt-leb len 1024 h) (both (leb (base + len) (length t)) (leb 256 (length cs))))
+  pub plain_past : leb (base + len) (length t) && leb len 1024 ≡ false → Stops
+  plain_past e = not_able (first_two (leb (base + len) (length t)) (leb len 1024) (leb 256 (length cs)) e)
 
-  pub plain_short : length t < len → Is
-  plain_short h = not_able (rw (lt-leb (base + len) (length t) (omega arith)))
-
-  pub plain_past : len ≤ length t → length t - len < base → Is
-  plain_past g h = not_able (rw (lt-leb (base + len) (length t) (omega arith)))
-
-  pub plain_narrow : length cs < 256 → Is
+  pub plain_narrow : length cs < 256 → Stops
   plain_narrow h = not_able (rw (lt-leb 256 (length cs) h) (last (leb (base + len) (length t)) (leb len 1024)))
 
 -- the frames of a body, cut out of the table, run as they do in it
@@ -119,15 +114,8 @@ module _ (t : List ℕ) (base len : ℕ) (h : base + len ≤ length t) where
       go true l again = rw (same_frame p (ltb-true p len l)) (rests (plain_effect (fields (get_or t (base + p) 0)) p cs) again)
       go false l again = refl
 
-module _ (budget : ℕ) (t : List ℕ) (base len from : ℕ) (cs : List ℕ) (a : len ≤ 1024) (b : len ≤ length t) (c : base ≤ length t - len) where
-  pub body_short : length (take ((base + len) - base) (drop base t)) ≤ 1024
-  body_short =
-      let e : (base + len) - base ≡ len = omega arith in
-      rw e (omega (arith, same_length t base len (omega arith)))
-
-  pub plain_runs : (o : Out) → 256 ≤ length cs → o ≡ plain budget (take ((base + len) - base) (drop base t)) 0 (length (take ((base + len) - base) (drop base t))) from cs → o ≡ run_plain budget t base len from cs
-  unfolding run_plain
-  plain_runs o d q =
-      let e : (base + len) - base ≡ len = omega arith in
-      let g : o ≡ plain budget (take len (drop base t)) 0 len from cs = rw (e, same_length t base len (omega arith)) at q in
-      rw (le-leb (base + len) (length t) (omega arith), le-leb len 1024 a, le-leb 256 (length cs) d) (g ∙ in_body t base len (omega arith) budget from cs)
+pub plain_runs : (budget : ℕ) (t : List ℕ) (base len from : ℕ) (cs : List ℕ) (o : Out) (bs : List ℕ) → bs ≡ take len (drop base t) → base + len ≤ length t → len ≤ 1024 → 256 ≤ length cs → o ≡ plain budget bs 0 (length bs) from cs → o ≡ run_plain budget t base len from cs
+unfolding run_plain
+plain_runs budget t base len from cs o bs e a b d q =
+    let g : o ≡ plain budget (take len (drop base t)) 0 len from cs = rw (e, same_length t base len a) at q in
+    rw (le-leb (base + len) (length t) a, le-leb len 1024 b, le-leb 256 (length cs) d) (g ∙ in_body t base len a budget from cs)

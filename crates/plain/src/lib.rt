@@ -1,10 +1,11 @@
 // The hot path: the plain instructions of one body, on a lent table and lent cells.
 #![tactic(auto)]
 
-ghost use Rattle.std.specs.Prelude.{◌≡◌, ◌+◌, ◌-◌, ◌≤◌, ◌<◌, length, get_or, set};
+ghost use Rattle.std.specs.Prelude.{◌≡◌, ◌+◌, ◌-◌, ◌≤◌, ◌<◌, ◌&&◌, false, leb, length, take, drop, get_or, set, IfSome, IfNone};
 ghost use Rattle.plain.specs.Plain.{Comes, load_of, store_of, hold_of, plain, run_plain};
 
 use effect::Eff;
+use ending::Ending;
 use frame::Frame;
 use image::Image;
 
@@ -16,33 +17,40 @@ fn wide(x: u32) -> usize
 }
 
 // The place v of the region is tested against its length, and the cell against the lent ones, which may be fewer where nobody judged.
+#[tactic(auto, using(crate::proofs::Arms::load_out, crate::proofs::Arms::load_in))]
 fn load_of(i: Frame, v: u32, cells: &[u32]) -> Eff
     ensures { result ≡ load_of i v cells.now }
 {
     let x = wide(v);
     if i.b as usize <= x {
-        return Eff::Stop(16);
+        return Eff::Stop(Ending::OutOfRegion);
     }
     Eff::Put(i.d as usize, slots::get_or(cells, i.imm as usize + x, 0))
 }
 
+#[tactic(auto, using(crate::proofs::Arms::store_out, crate::proofs::Arms::store_in))]
 fn store_of(i: Frame, v: u32, cells: &[u32]) -> Eff
     ensures { result ≡ store_of i v cells.now }
 {
     let x = wide(v);
     if i.b as usize <= x {
-        return Eff::Stop(16);
+        return Eff::Stop(Ending::OutOfRegion);
     }
     Eff::Put(i.imm as usize + x, slots::get_or(cells, i.d as usize, 0))
 }
 
-// Ops 50 and 51: on where the cell is not 0, else the run stops with 12 or 13.
+// Ops 50 and 51: on where the cell is not 0, else the run stops.
+#[tactic(auto, using(crate::proofs::Arms::assert_fails, crate::proofs::Arms::assume_fails, crate::proofs::Arms::hold_passes))]
 fn holds(x: u32, op: u8) -> Eff
     requires { (0x50 ≤ op) × (op ≤ 0x51) }
     ensures { result ≡ hold_of x (12 + (op - 0x50)) }
 {
     if x == 0 {
-        return Eff::Stop(12 + (op - 0x50));
+        return Eff::Stop(if op == 0x50 {
+            Ending::AssertFailed
+        } else {
+            Ending::AssumeFailed
+        });
     }
     Eff::Next
 }
@@ -88,12 +96,12 @@ fn effect_of(i: Frame, cells: &[u32]) -> Eff
     }
 }
 
-// How a run of plain instructions ends: at the body's end, at an instruction that is not plain, or with a number.
+// How a run of plain instructions ends: at the body's end, at an instruction that is not plain, or where one stopped the run.
 #[derive(Clone, Copy)]
 pub enum End {
     Ended,
     Left,
-    Stopped(u8),
+    Stopped(Ending),
 }
 
 // How it ends, where, and what is left of the budget.
@@ -111,12 +119,13 @@ fn run_body(body: &[u64], from: usize, budget: u32, cells: &mut [u32]) -> Ran
 {
     let mut place = from;
     let mut left = budget;
+    // The place is where the instructions lead, and no index that goes over the body.
     while place < body.len() {
         if left == 0 {
             return Ran {
-                end: End::Stopped(22),
-                place: place,
-                left: left,
+                end: End::Stopped(Ending::NoBudgetLeft),
+                place,
+                left,
             };
         }
         let i = Frame::from(body[place]);
@@ -124,10 +133,10 @@ fn run_body(body: &[u64], from: usize, budget: u32, cells: &mut [u32]) -> Ran
         match e {
             Eff::Put(at, v) => {
                 slots::put(cells, at, v);
-                place = place + 1;
+                place += 1;
             }
             Eff::Next => {
-                place = place + 1;
+                place += 1;
             }
             Eff::Go(to) => {
                 place = to;
@@ -135,38 +144,40 @@ fn run_body(body: &[u64], from: usize, budget: u32, cells: &mut [u32]) -> Ran
             Eff::Stop(n) => {
                 return Ran {
                     end: End::Stopped(n),
-                    place: place,
-                    left: left,
+                    place,
+                    left,
                 };
             }
             Eff::Leave => {
                 return Ran {
                     end: End::Left,
-                    place: place,
-                    left: left,
+                    place,
+                    left,
                 };
             }
         }
-        left = left - 1;
+        left -= 1;
     }
     Ran {
         end: End::Ended,
-        place: place,
-        left: left,
+        place,
+        left,
     }
 }
 
-fn not_able(from: usize, budget: u32) -> Ran
-    ensures { result ≡ record { end = End.Stopped 4; place = from; left = budget } }
+// The frames of the body of len frames that begins at line base, if the table has them all and a body may have so many.
+fn body_of(table: &[u64], base: usize, len: usize) -> Option<&[u64]>
+    ensures some { IfSome result (λ b. (b.now ≡ take len (drop base table.now)) × (base + len ≤ length table.now) × (len ≤ 1024)) }
+    ensures none { IfNone result (leb (base + len) (length table.now) && leb len 1024 ≡ false) }
 {
-    Ran {
-        end: End::Stopped(4),
-        place: from,
-        left: budget,
+    if Image::INSTRUCTIONS < len {
+        return None;
     }
+    table.get(base..)?.get(..len)
 }
 
 // Runs the plain instructions of the body of len frames that begins at line base, from a place on.
+#[tactic(auto, using(crate::proofs::Turns::plain_runs, crate::proofs::Turns::plain_past, crate::proofs::Turns::plain_narrow))]
 pub fn run_plain(
     table: &[u64],
     base: usize,
@@ -177,18 +188,12 @@ pub fn run_plain(
 ) -> Ran
     ensures { record { ran = result; cells = cells.new } ≡ run_plain budget table.now base len from cells.old }
 {
-    if Image::INSTRUCTIONS < len {
-        return not_able(from, budget);
+    match body_of(table, base, len) {
+        Some(body) if Image::CELLS as usize <= cells.len() => run_body(body, from, budget, cells),
+        _ => Ran {
+            end: End::Stopped(Ending::UnknownOp),
+            place: from,
+            left: budget,
+        },
     }
-    if table.len() < len {
-        return not_able(from, budget);
-    }
-    if table.len() - len < base {
-        return not_able(from, budget);
-    }
-    if cells.len() < Image::CELLS as usize {
-        return not_able(from, budget);
-    }
-    let end = base + len;
-    run_body(&table[base..end], from, budget, cells)
 }

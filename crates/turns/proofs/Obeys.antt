@@ -34,6 +34,9 @@ use Rattle.shows.specs.Shows.{Lists, Kept, kept, Shows}
 use Rattle.shows.proofs.Asks.{may_run_lem, times_are, never_is}
 use Rattle.shows.proofs.Happens.{shows_again, shows_trigger, shows_asks, shows_requests, shows_waits_on, shows_waits_till, shows_suspends, shows_resumes}
 use Rattle.turns.specs.declared.Control.{Control}
+use Rattle.ending.specs.declared.Ending.{Ending as Reason}
+use Rattle.ending.specs.declared.Ending.TheVariants.{UnknownOp, TooLate, OutOfPhase, NoInputLeft, TooManyDueTimes}
+use Rattle.ending.specs.Ending.{number_of as reason_number}
 use Rattle.turns.specs.declared.Control.TheVariants.{Runs, Evaluation, Over}
 use Rattle.turns.specs.declared.Now.{Now}
 use Rattle.turns.specs.declared.Obeyed.TheVariants.{Goes, Waits, Took, Begins}
@@ -129,11 +132,11 @@ module _ (j : Job) (rest : List ℕ) (good : (judged j.table).number ≡ 0) (b :
   unfoldable pub Follows : Did → Type 0
   Follows d = Stands j rest (step j s) (completed_to (threads t) (length j.inputs) b p d.came d.kept.marks now) d.kept.lists (completed_at b p d.came (set ps b p)) d.cells
 
-  stops_run : (c : ℕ) → effect_of j s body ≡ stops c → Follows (stopped c x cs)
+  stops_run : (c : Reason) → effect_of j s body ≡ stops (reason_number c) → Follows (stopped c x cs)
   unfolding Follows perform
   stops_run c f =
-      goes_to_lem j rest s now l (set ps b p) cs st (Over c b p) (over c (number t body) (m.places (number t body)))
-      (rw (placed_at, number_of t b)) (step_is (stops c) f)
+      goes_to_lem j rest s now l (set ps b p) cs st (Over c b p) (over (reason_number c) (number t body) (m.places (number t body)))
+      (rw (placed_at, number_of t b)) (step_is (stops (reason_number c)) f)
 
   -- where a body stands after what it asked of the kernel
   stays : (d : Deed) (x' : Kept) → Shows t (after (ran body d) k) x' → place_of (threads t) (stays_at (threads t) b x'.marks) ≡ runs_on j s body (kernel (ran body d ∷ s.history))
@@ -270,12 +273,12 @@ module _ (j : Job) (rest : List ℕ) (good : (judged j.table).number ≡ 0) (b :
       same_late true e = lt-ltb 4294967295 u (omega (arith, ltb-true last_time (suc u) e))
       same_late false e = le-ltb 4294967295 u (omega (arith, ltb-false last_time (suc u) e))
 
-      room : ltb last_time (suc u) ≡ false → (z : Bool) → (adds && leb 48 (times_in l)) ≡ z → effect_of j s body ≡ stop_if z 23 (does d) → Follows (if z then stopped 23 x cs else a)
-      room e true r g = stops_run 23 g
+      room : ltb last_time (suc u) ≡ false → (z : Bool) → (adds && leb 48 (times_in l)) ≡ z → effect_of j s body ≡ stop_if z 23 (does d) → Follows (if z then stopped TooManyDueTimes x cs else a)
+      room e true r g = stops_run TooManyDueTimes g
       room e false r g = w (ltb-false last_time (suc u) e) g
 
-      late : (z : Bool) → ltb last_time (suc u) ≡ z → Follows (if z then stopped 17 x cs else (if not (eqb (suc u) 0) && (adds && leb 48 (times_in l)) then stopped 23 x cs else a))
-      late true e = stops_run 17 (f ∙ rw (same_late true e))
+      late : (z : Bool) → ltb last_time (suc u) ≡ z → Follows (if z then stopped TooLate x cs else (if not (eqb (suc u) 0) && (adds && leb 48 (times_in l)) then stopped TooManyDueTimes x cs else a))
+      late true e = stops_run TooLate (f ∙ rw (same_late true e))
       late false e =
           rw (ne_eqb (suc u) 0 (λ z. omega arith))
           (room e (adds && leb 48 (times_in l)) refl (f ∙ rw (same_late false e, times_are t k x st.shows)))
@@ -287,8 +290,8 @@ module _ (j : Job) (rest : List ℕ) (good : (judged j.table).number ≡ 0) (b :
       same : main_past body k.stage ≡ is_past b n.stage
       same = rw (← st.counts.stage) (past_is T b n.stage)
 
-      by : (z : Bool) → is_past b n.stage ≡ z → Follows (if z then stopped 18 x cs else d)
-      by true q = stops_run 18 (f ∙ rw (same ∙ q))
+      by : (z : Bool) → is_past b n.stage ≡ z → Follows (if z then stopped OutOfPhase x cs else d)
+      by true q = stops_run OutOfPhase (f ∙ rw (same ∙ q))
       by false q = w (f ∙ rw (same ∙ q))
 
   -- Each instruction ----------------------------------------------------------------------------------------------
@@ -307,7 +310,7 @@ module _ (j : Job) (rest : List ℕ) (good : (judged j.table).number ≡ 0) (b :
   takes_by f e g = by f e (g ∙ ap (takes_to i.d) (ap (nth j.inputs) (sym st.counts.inputs) ∙ e))
     where
       by : (f : Found) → nth j.inputs n.taken ≡ f → effect_of j s body ≡ takes_to i.d f → Follows (took_by f i.d x cs)
-      by none e r = stops_run 19 r
+      by none e r = stops_run NoInputLeft r
       by (found v) e r = takes_input_lem i.d v (nth_some j.inputs n.taken v e) r
 
   starts_by_lem : (v : Option ℕ) → effect_of j s body ≡ starts_in k.stage (limit_of v) → Follows (starts_by n.stage v x cs)
@@ -315,9 +318,9 @@ module _ (j : Job) (rest : List ℕ) (good : (judged j.table).number ≡ 0) (b :
     where
       by : (g : StageCode) → effect_of j s body ≡ starts_in (stage_of g) (limit_of v) → Follows (starts_by g v x cs)
       by Before w = begins_phase v (limit_of v) refl w
-      by During w = stops_run 18 w
-      by Quiet w = stops_run 18 w
-      by Limited w = stops_run 18 w
+      by During w = stops_run OutOfPhase w
+      by Quiet w = stops_run OutOfPhase w
+      by Limited w = stops_run OutOfPhase w
 
   abbrev obeyed_as : Meaning → Did
   obeyed_as a = obeyed T b i now j.inputs x cs a
@@ -348,7 +351,7 @@ module _ (j : Job) (rest : List ℕ) (good : (judged j.table).number ≡ 0) (b :
       in_time_lem (does (resumes i.d)) _ (seen_as _ (rw e)) (λ f. does_asked (resumes i.d) _ f (shows_resumes t k x st.shows i.d))
   follows_by start_limit e z = starts_by_lem (Some i.imm) (seen_as _ (rw e))
   follows_by start e z = starts_by_lem None (seen_as _ (rw e))
-  follows_by unknown e z = stops_run 4 (seen_as _ (rw e))
+  follows_by unknown e z = stops_run UnknownOp (seen_as _ (rw e))
   follows_by takes_imm e z = false_true z
   follows_by (one f) e z = false_true z
   follows_by (two f) e z = false_true z

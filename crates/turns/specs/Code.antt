@@ -13,6 +13,9 @@ use Rattle.marks.specs.Marks.{may_run, any_runs, first_asked, not_ended, first_m
 use Rattle.dues.specs.Dues.{time_at, count_at, ask_code, waits_at, changed, asked_code, over_code, due_in}
 use Rattle.waits.specs.Waits.{triggered}
 use Rattle.phases.specs.Phases.{cleared_by, served_delta, served_time}
+use Rattle.ending.specs.declared.Ending.{Ending}
+use Rattle.ending.specs.declared.Ending.TheVariants.{Quiet as QuietEnding, UnknownOp, Limit, NoStart, TooLate, OutOfPhase, NoInputLeft, NoChoiceLeft, NotRunnable, TooManyDueTimes}
+use Rattle.ending.specs.Ending.{number_of}
 use Rattle.plain.specs.declared.End.{End}
 use Rattle.plain.specs.declared.End.TheVariants.{Ended, Left, Stopped}
 use Rattle.plain.specs.Plain.{Out, run_plain}
@@ -68,20 +71,20 @@ abbrev pub dispatch : ℕ → Now → Now
 dispatch c n = record n { control = Runs (c + 1); chosen = n.chosen + 1 }
 
 abbrev pub chosen_by : Found → Now → Now
-chosen_by none n = goes_to (Over 20 0xff 0) n
-chosen_by (found c) n = if may_run n.marks c then dispatch c n else goes_to (Over 21 0xff 0) n
+chosen_by none n = goes_to (Over NoChoiceLeft 0xff 0) n
+chosen_by (found c) n = if may_run n.marks c then dispatch c n else goes_to (Over NotRunnable 0xff 0) n
 
 -- and where no thread is runnable the machine goes to `idle`
 unfoldable pub evaluated : (choices : List ℕ) → (idle : Control) → Now → Now
 evaluated choices idle n = if any_runs n.marks then chosen_by (nth choices n.chosen) n else goes_to idle n
 
--- what the next choice comes to while a thread is runnable: the thread that is dispatched, or the number k that the run stops with; and
--- what follows where it stops
-abbrev pub choice_by : Found → Marks → Result ℕ ℕ
-choice_by none m = Err 20
-choice_by (found c) m = if may_run m c then Ok c else Err 21
+-- what the next choice comes to while a thread is runnable: the thread that is dispatched, or why the run is over; and what follows
+-- where it is over for k
+abbrev pub choice_by : Found → Marks → Result ℕ Ending
+choice_by none m = Err NoChoiceLeft
+choice_by (found c) m = if may_run m c then Ok c else Err NotRunnable
 
-abbrev pub idle_or : (k : ℕ) → (idle : Control) → Now → Now
+abbrev pub idle_or : (k : Ending) → (idle : Control) → Now → Now
 idle_or k idle n = if any_runs n.marks then goes_to (Over k 0xff 0) n else goes_to idle n
 
 -- The update phase; t is the number of threads ----------------------------------------------------------------
@@ -138,11 +141,11 @@ served_by (found t) n l = if is_beyond n.limit t then l else served_at t l
 
 -- A body's end ------------------------------------------------------------------------------------------------
 
-abbrev pub phase_number : Stage → ℕ
-phase_number Before = 11
-phase_number During = 11
-phase_number Quiet = 0
-phase_number Limited = 10
+abbrev pub phase_ending : Stage → Ending
+phase_ending Before = NoStart
+phase_ending During = NoStart
+phase_ending Quiet = QuietEnding
+phase_ending Limited = Limit
 
 -- body b is thread b - 1 of t threads
 abbrev pub is_thread : (t b : ℕ) → Bool
@@ -150,29 +153,29 @@ is_thread t b = between 1 b t
 
 unfoldable pub ends_to : (t b : ℕ) → Now → Now
 ends_to t b n =
-    if eqb b 0 then goes_to (Over (phase_number n.stage) 0xff 0) n
+    if eqb b 0 then goes_to (Over (phase_ending n.stage) 0xff 0) n
     else (if leb b t then marks_to Evaluation (ended_by (b - 1) n.marks) n else marks_to UpdatePhase (finished_by (b - 1 - t) n.marks) n)
 
 -- An instruction that is not plain ------------------------------------------------------------------------------
 
--- what it came to, or the number that the run stops with
+-- what it came to, or why the run is over
 pub record Did : Type 0 where
-  pub came : Result Obeyed ℕ
+  pub came : Result Obeyed Ending
   pub kept : Kept
   pub cells : List ℕ
 
 abbrev pub did : Obeyed → Kept → List ℕ → Did
 did o x cs = record { came = Ok o; kept = x; cells = cs }
 
-abbrev pub stopped : ℕ → Kept → List ℕ → Did
+abbrev pub stopped : Ending → Kept → List ℕ → Did
 stopped k x cs = record { came = Err k; kept = x; cells = cs }
 
 -- as the code has it: where the run stops, the marks m stay as they were
-abbrev pub did_by : Result Done ℕ → (m : Marks) → Lists → List ℕ → Did
+abbrev pub did_by : Result Done Ending → (m : Marks) → Lists → List ℕ → Did
 did_by (Ok d) m l cs = did d.came (kept d.marks l) cs
 did_by (Err k) m l cs = stopped k (kept m l) cs
 
-abbrev pub did_of : Result Done ℕ → Now → State → List ℕ → Did
+abbrev pub did_of : Result Done Ending → Now → State → List ℕ → Did
 did_of r n s cs = did_by r n.marks (lists_of s) cs
 
 -- is the phase over
@@ -221,22 +224,22 @@ full adds q l = not (eqb q 0) && (adds && leb 48 (times_in l))
 -- a due time q is asked for: 17, then 23, then what it does
 abbrev pub due_by : (adds : Bool) → (q : ℕ) → Kept → List ℕ → Did → Did
 due_by adds q x cs d =
-    if ltb last_time q then stopped 17 x cs else (if full adds q x.lists then stopped 23 x cs else d)
+    if ltb last_time q then stopped TooLate x cs else (if full adds q x.lists then stopped TooManyDueTimes x cs else d)
 
 abbrev pub took_by : Found → ℕ → Kept → List ℕ → Did
-took_by none d x cs = stopped 19 x cs
+took_by none d x cs = stopped NoInputLeft x cs
 took_by (found v) d x cs = did Took x (set cs d v)
 
 -- 18 comes before what the instruction itself answers
 abbrev pub in_time : (b : ℕ) → Stage → Kept → List ℕ → Did → Did
-in_time b stage x cs d = if is_past b stage then stopped 18 x cs else d
+in_time b stage x cs d = if is_past b stage then stopped OutOfPhase x cs else d
 
 -- the phase begins once
 abbrev pub starts_by : Stage → (limit : Option ℕ) → Kept → List ℕ → Did
 starts_by Before limit x cs = did (Begins limit) x cs
-starts_by During limit x cs = stopped 18 x cs
-starts_by Quiet limit x cs = stopped 18 x cs
-starts_by Limited limit x cs = stopped 18 x cs
+starts_by During limit x cs = stopped OutOfPhase x cs
+starts_by Quiet limit x cs = stopped OutOfPhase x cs
+starts_by Limited limit x cs = stopped OutOfPhase x cs
 
 -- the marks alone changed
 abbrev pub marked : (Marks → Marks) → Kept → Kept
@@ -258,16 +261,16 @@ module _ (t b : ℕ) (i : Frame) (n : Now) (inputs : List ℕ) (x : Kept) (cs : 
   obeyed resume = in_time b n.stage x cs (did Goes (marked (resumed i.d) x) cs)
   obeyed start_limit = starts_by n.stage (Some i.imm) x cs
   obeyed start = starts_by n.stage None x cs
-  obeyed takes_imm = stopped 4 x cs
-  obeyed (one f) = stopped 4 x cs
-  obeyed (two f) = stopped 4 x cs
-  obeyed (may f) = stopped 4 x cs
-  obeyed load = stopped 4 x cs
-  obeyed store = stopped 4 x cs
-  obeyed goto = stopped 4 x cs
-  obeyed goto_if = stopped 4 x cs
-  obeyed (holds k) = stopped 4 x cs
-  obeyed unknown = stopped 4 x cs
+  obeyed takes_imm = stopped UnknownOp x cs
+  obeyed (one f) = stopped UnknownOp x cs
+  obeyed (two f) = stopped UnknownOp x cs
+  obeyed (may f) = stopped UnknownOp x cs
+  obeyed load = stopped UnknownOp x cs
+  obeyed store = stopped UnknownOp x cs
+  obeyed goto = stopped UnknownOp x cs
+  obeyed goto_if = stopped UnknownOp x cs
+  obeyed (holds k) = stopped UnknownOp x cs
+  obeyed unknown = stopped UnknownOp x cs
 
 -- does the body that ran go on where it does not wait: a thread that has suspended itself does not
 unfoldable pub stays_at : (t b : ℕ) → Marks → Control
@@ -278,14 +281,14 @@ unfoldable pub next_input : (c taken : ℕ) → ℕ
 next_input c taken = if ltb taken c then taken + 1 else taken
 
 -- an instruction of body b at place p is completed, or stops the run
-abbrev pub completed_to : (t c b p : ℕ) → Result Obeyed ℕ → Marks → Now → Now
+abbrev pub completed_to : (t c b p : ℕ) → Result Obeyed Ending → Marks → Now → Now
 completed_to t c b p (Err k) m n = goes_to (Over k b p) n
 completed_to t c b p (Ok Goes) m n = with_left (n.left - 1) (marks_to (stays_at t b m) m n)
 completed_to t c b p (Ok Waits) m n = with_left (n.left - 1) (marks_to Evaluation m n)
 completed_to t c b p (Ok Took) m n = record n { control = Runs b; left = n.left - 1; taken = next_input c n.taken }
 completed_to t c b p (Ok (Begins x)) m n = record n { control = UpdatePhase; limit = x; stage = During; left = n.left - 1 }
 
-abbrev pub completed_at : (b p : ℕ) → Result Obeyed ℕ → List ℕ → List ℕ
+abbrev pub completed_at : (b p : ℕ) → Result Obeyed Ending → List ℕ → List ℕ
 completed_at b p (Err k) ps = ps
 completed_at b p (Ok o) ps = set ps b (p + 1)
 
@@ -407,10 +410,10 @@ zeroed (suc n) (x ∷ cs) = 0 ∷ zeroed n cs
 
 -- What is told at the end ---------------------------------------------------------------------------------------
 
--- the answer of a run that is over with number k, body b and place p, had it this budget; its fields have 32 bits
-abbrev pub answer_as : (budget : ℕ) → Now → (k b p : ℕ) → Told
+-- the answer of a run that is over for k, in body b at place p, had it this budget; its fields have 32 bits
+abbrev pub answer_as : (budget : ℕ) → Now → (k : Ending) → (b p : ℕ) → Told
 answer_as budget n k b p = record {
-  number = k;
+  number = number_of k;
   body = b % 4294967296;
   place = p % 4294967296;
   time = n.time;
@@ -426,12 +429,12 @@ refused_at n i = record { number = n; body = 0xff; place = i % 4294967296; time 
 -- (a run is over when it is told, so the other cases never arise)
 abbrev pub answer_from : (budget : ℕ) → Now → Control → Told
 answer_from budget n (Over k b p) = answer_as budget n k b p
-answer_from budget n (Runs b) = answer_as budget n 0 0 0
-answer_from budget n UpdatePhase = answer_as budget n 0 0 0
-answer_from budget n DeltaPhase = answer_as budget n 0 0 0
-answer_from budget n Turn = answer_as budget n 0 0 0
-answer_from budget n Evaluation = answer_as budget n 0 0 0
-answer_from budget n TimePhase = answer_as budget n 0 0 0
+answer_from budget n (Runs b) = answer_as budget n QuietEnding 0 0
+answer_from budget n UpdatePhase = answer_as budget n QuietEnding 0 0
+answer_from budget n DeltaPhase = answer_as budget n QuietEnding 0 0
+answer_from budget n Turn = answer_as budget n QuietEnding 0 0
+answer_from budget n Evaluation = answer_as budget n QuietEnding 0 0
+answer_from budget n TimePhase = answer_as budget n QuietEnding 0 0
 
 unfoldable pub answered : (budget : ℕ) → Now → Told
 answered budget n = answer_from budget n n.control

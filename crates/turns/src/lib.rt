@@ -5,9 +5,10 @@
 ghost use Rattle.std.specs.Prelude.{◌≡◌};
 ghost use Rattle.turns.specs.Code.{threads_of, goes_to, marks_to};
 
+use ending::Ending;
 use marks::Marks;
 
-// Where the machine stands: body b runs, a phase, the turn to evaluation or time, or the run is over with number, body and place.
+// Where the machine stands: body b runs, a phase, the turn to evaluation or time, or the run is over: why, in which body and at which place.
 #[derive(Clone, Copy)]
 pub enum Control {
     Runs(usize),
@@ -16,7 +17,7 @@ pub enum Control {
     Turn,
     Evaluation,
     TimePhase,
-    Over(u8, usize, usize),
+    Over(Ending, usize, usize),
 }
 
 // How far the phase is: main has not begun it, it runs, or it is over, as quiet or by its limit.
