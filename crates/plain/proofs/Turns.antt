@@ -133,3 +133,5 @@ module _ (budget : ℕ) (t : List ℕ) (base len from : ℕ) (cs : List ℕ) (a 
       let e : (base + len) - base ≡ len = omega arith in
       let g : o ≡ plain budget (take len (drop base t)) 0 len from cs = rw (e, same_length t base len (omega arith)) at q in
       rw (le-leb (base + len) (length t) (omega arith), le-leb len 1024 a, le-leb 256 (length cs) d) (g ∙ in_body t base len (omega arith) budget from cs)
+
+pub ruleset able_laws = (plain_long, plain_short, plain_past, plain_narrow, body_short, plain_runs)

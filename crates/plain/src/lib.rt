@@ -184,7 +184,7 @@ fn run_body(body: &[u64], from: usize, budget: u32, cells: &mut [u32]) -> Ran
 }
 
 // Runs the plain instructions of the body of len frames that begins at line base, from a place on.
-#[tactic(auto, using(crate::proofs::Turns::plain_long, crate::proofs::Turns::plain_short, crate::proofs::Turns::plain_past, crate::proofs::Turns::plain_narrow, crate::proofs::Turns::body_short, crate::proofs::Turns::plain_runs))]
+#[tactic(auto, using(crate::proofs::Turns::able_laws))]
 pub fn run_plain(
     table: &[u64],
     base: usize,
