@@ -32,7 +32,7 @@ pub fn put(d: usize, r: Result<u32, ArithmeticError>) -> Eff
 }
 
 // Cell d takes a signed result where the range has it. The result is tested here and not in `signed`, because an effect, unlike an
-// outcome, is too large for the compiler to carry it through the test as one number.
+// answer of `signed`, is too large for the compiler to carry it through the test as one number.
 #[tactic(auto, using(crate::proofs::Puts::cell_taken, crate::proofs::Puts::out_of_cells))]
 fn put_signed(d: usize, s: i64) -> Eff
     ensures { result ≡ put_of d (narrow 32 s) }

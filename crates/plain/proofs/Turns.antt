@@ -16,6 +16,7 @@ use Rattle.ending.specs.declared.Ending.TheVariants.{UnknownOp, NoBudgetLeft}
 use Rattle.effect.specs.declared.Eff.{Eff}
 use Rattle.effect.specs.declared.Eff.TheVariants.{Put, Next, Go, Stop, Leave}
 use Rattle.plain.specs.declared.End.TheVariants.{Ended, Left, Stopped}
+use Rattle.plain.specs.declared.Ran.{Ran}
 use Rattle.plain.specs.Plain.{Out, out, when, after, plain_effect, Comes, plain, able, run_plain}
 
 module _ (t : List ℕ) (len : ℕ) (o : Out) (p x : ℕ) (cs : List ℕ) (inv : plain x t 0 len p cs ≡ o) where
@@ -64,27 +65,33 @@ module _ (t : List ℕ) (len : ℕ) (o : Out) (p x : ℕ) (cs : List ℕ) (inv :
 pub ruleset loop_laws = (loop_ended, loop_spent, loop_stops, loop_leaves, loop_nexts, loop_goes, loop_puts)
 
 -- where the body does not lie in the table, or the cells are too few
-module _ (budget : ℕ) (t : List ℕ) (base len from : ℕ) (cs : List ℕ) where
-  abbrev Stops : Type 0
-  Stops = record { ran = record { end = Stopped UnknownOp; place = from; left = budget }; cells = cs } ≡ run_plain budget t base len from cs
+module _ (budget : ℕ) (t : List ℕ) (base len from : ℕ) (cs : List ℕ) (r : Ran) (e : r ≡ record { end = Stopped UnknownOp; place = from; left = budget }) where
+  abbrev Is : Type 0
+  Is = record { ran = r; cells = cs } ≡ run_plain budget t base len from cs
 
-  not_able : able t base len cs ≡ false → Stops
+  not_able : able t base len cs ≡ false → Is
   unfolding run_plain
-  not_able q = rw q
+  not_able q = rw (q, e)
 
-  first_two : (a b c : Bool) → a && b ≡ false → a && (b && c) ≡ false
-  first_two true b c e = rw e
-  first_two false b c e = refl
+  both : (a b : Bool) → a && (false && b) ≡ false
+  both true b = refl
+  both false b = refl
 
   last : (a b : Bool) → a && (b && false) ≡ false
   last true true = refl
   last true false = refl
   last false b = refl
 
-  pub plain_past : leb (base + len) (length t) && leb len 1024 ≡ false → Stops
-  plain_past e = not_able (first_two (leb (base + len) (length t)) (leb len 1024) (leb 256 (length cs)) e)
+  pub plain_long : 1024 < len → Is
+  plain_long h = not_able (rw (lt-leb len 1024 h) (both (leb (base + len) (length t)) (leb 256 (length cs))))
 
-  pub plain_narrow : length cs < 256 → Stops
+  pub plain_short : length t < len → Is
+  plain_short h = not_able (rw (lt-leb (base + len) (length t) (omega arith)))
+
+  pub plain_past : len ≤ length t → length t - len < base → Is
+  plain_past g h = not_able (rw (lt-leb (base + len) (length t) (omega arith)))
+
+  pub plain_narrow : length cs < 256 → Is
   plain_narrow h = not_able (rw (lt-leb 256 (length cs) h) (last (leb (base + len) (length t)) (leb len 1024)))
 
 -- the frames of a body, cut out of the table, run as they do in it
@@ -114,8 +121,17 @@ module _ (t : List ℕ) (base len : ℕ) (h : base + len ≤ length t) where
       go true l again = rw (same_frame p (ltb-true p len l)) (rests (plain_effect (fields (get_or t (base + p) 0)) p cs) again)
       go false l again = refl
 
-pub plain_runs : (budget : ℕ) (t : List ℕ) (base len from : ℕ) (cs : List ℕ) (o : Out) (bs : List ℕ) → bs ≡ take len (drop base t) → base + len ≤ length t → len ≤ 1024 → 256 ≤ length cs → o ≡ plain budget bs 0 (length bs) from cs → o ≡ run_plain budget t base len from cs
-unfolding run_plain
-plain_runs budget t base len from cs o bs e a b d q =
-    let g : o ≡ plain budget (take len (drop base t)) 0 len from cs = rw (e, same_length t base len a) at q in
-    rw (le-leb (base + len) (length t) a, le-leb len 1024 b, le-leb 256 (length cs) d) (g ∙ in_body t base len a budget from cs)
+module _ (budget : ℕ) (t : List ℕ) (base len from : ℕ) (cs : List ℕ) (a : len ≤ 1024) (b : len ≤ length t) (c : base ≤ length t - len) where
+  pub body_short : length (take ((base + len) - base) (drop base t)) ≤ 1024
+  body_short =
+      let e : (base + len) - base ≡ len = omega arith in
+      rw e (omega (arith, same_length t base len (omega arith)))
+
+  pub plain_runs : (o : Out) → 256 ≤ length cs → o ≡ plain budget (take ((base + len) - base) (drop base t)) 0 (length (take ((base + len) - base) (drop base t))) from cs → o ≡ run_plain budget t base len from cs
+  unfolding run_plain
+  plain_runs o d q =
+      let e : (base + len) - base ≡ len = omega arith in
+      let g : o ≡ plain budget (take len (drop base t)) 0 len from cs = rw (e, same_length t base len (omega arith)) at q in
+      rw (le-leb (base + len) (length t) (omega arith), le-leb len 1024 a, le-leb 256 (length cs) d) (g ∙ in_body t base len (omega arith) budget from cs)
+
+pub ruleset able_laws = (plain_long, plain_short, plain_past, plain_narrow, body_short, plain_runs)

@@ -1,7 +1,7 @@
 // The hot path: the plain instructions of one body, on a lent table and lent cells.
 #![tactic(auto)]
 
-ghost use Rattle.std.specs.Prelude.{◌≡◌, ◌+◌, ◌-◌, ◌≤◌, ◌<◌, ◌&&◌, false, leb, length, take, drop, get_or, set, IfSome, IfNone};
+ghost use Rattle.std.specs.Prelude.{◌≡◌, ◌+◌, ◌-◌, ◌≤◌, ◌<◌, length, get_or, set};
 ghost use Rattle.plain.specs.Plain.{Comes, load_of, store_of, hold_of, plain, run_plain};
 
 use effect::Eff;
@@ -165,19 +165,8 @@ fn run_body(body: &[u64], from: usize, budget: u32, cells: &mut [u32]) -> Ran
     }
 }
 
-// The frames of the body of len frames that begins at line base, if the table has them all and a body may have so many.
-fn body_of(table: &[u64], base: usize, len: usize) -> Option<&[u64]>
-    ensures some { IfSome result (λ b. (b.now ≡ take len (drop base table.now)) × (base + len ≤ length table.now) × (len ≤ 1024)) }
-    ensures none { IfNone result (leb (base + len) (length table.now) && leb len 1024 ≡ false) }
-{
-    if Image::INSTRUCTIONS < len {
-        return None;
-    }
-    table.get(base..)?.get(..len)
-}
-
 // Runs the plain instructions of the body of len frames that begins at line base, from a place on.
-#[tactic(auto, using(crate::proofs::Turns::plain_runs, crate::proofs::Turns::plain_past, crate::proofs::Turns::plain_narrow))]
+#[tactic(auto, using(crate::proofs::Turns::able_laws))]
 pub fn run_plain(
     table: &[u64],
     base: usize,
@@ -188,12 +177,18 @@ pub fn run_plain(
 ) -> Ran
     ensures { record { ran = result; cells = cells.new } ≡ run_plain budget table.now base len from cells.old }
 {
-    match body_of(table, base, len) {
-        Some(body) if Image::CELLS as usize <= cells.len() => run_body(body, from, budget, cells),
-        _ => Ran {
+    // Tried with `table.get(base..)?.get(..len)` in place of the three tests of the table: the loop then lay so that a plain instruction took
+    // 1.16 of the C++ interpreter's time, where 1.15 is the bar.
+    if Image::INSTRUCTIONS < len
+        || table.len() < len
+        || table.len() - len < base
+        || cells.len() < Image::CELLS as usize
+    {
+        return Ran {
             end: End::Stopped(Ending::UnknownOp),
             place: from,
             left: budget,
-        },
+        };
     }
+    run_body(&table[base..base + len], from, budget, cells)
 }
