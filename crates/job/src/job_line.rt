@@ -1,6 +1,5 @@
 // The lines of a job that stand before its image.
-ghost use Rattle.std.specs.Prelude.{◌≡◌, ℕ, ◌^◌, ◌<◌, length, Some, None, MatchOption};
-ghost use Rattle.std.proofs.Common.{arith};
+ghost use Rattle.std.specs.Prelude.{◌≡◌, refl, true, ltb, ℕ, ◌^◌, ◌<◌, length, Some, None, MatchOption};
 ghost use Rattle.program.specs.JobLines.{after_line, budget_of, numbers_of};
 ghost use Rattle.job.specs.Numbers.{Lists};
 
@@ -16,7 +15,7 @@ pub trait Number: Copy {
         requires { x < 16 ^ DIGITS }
         ensures { value result ≡ x };
 
-    ghost some: { 0 < DIGITS };
+    ghost some: { ltb 0 DIGITS ≡ true };
 }
 
 // A choice.
@@ -27,7 +26,7 @@ impl Number for u8 {
 
     ghost value = { λ x. x };
 
-    ghost some = { omega arith };
+    ghost some = { refl };
 
     fn from_digits(x: u64) -> u8 {
         x as u8
@@ -42,7 +41,7 @@ impl Number for u32 {
 
     ghost value = { λ x. x };
 
-    ghost some = { omega arith };
+    ghost some = { refl };
 
     fn from_digits(x: u64) -> u32 {
         x as u32

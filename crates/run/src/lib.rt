@@ -1,18 +1,18 @@
 // One run of a design under given choices, inputs and budget.
 #![tactic(auto)]
 
-ghost use Rattle.std.specs.Prelude.{◌≡◌, ◌+◌, ◌*◌, ◌≤◌, ◌<◌, Err, length, replicate};
+ghost use Rattle.std.specs.Prelude.{◌≡◌, ◌+◌, ◌*◌, ◌≤◌, ◌<◌, length, replicate};
 ghost use Rattle.turns.specs.Stands.{Firsts};
 ghost use Rattle.turns.specs.Code.{lists_of, code_of, threads_of, turns_of, first_now, started, first_lists, zeroed, refused_at, told};
 ghost use Rattle.answer.specs.Answer.{said};
 ghost use Rattle.image.specs.Layout.{bodies as bodiesOf};
-ghost use Rattle.image.specs.Judge.{judged, said as told_of};
+ghost use Rattle.image.specs.Judge.{judged};
 ghost use Rattle.kernel.specs.Machine.{job_of};
 ghost use Rattle.kernel.specs.Run.{runs, asked as asked_for};
 
 use answer::Answer;
 use frame::Frame;
-use image::{Image, Refusal};
+use image::Image;
 use marks::Marks;
 use turns::{Control, Job, Now, Stage, State};
 
@@ -126,27 +126,37 @@ fn run_accepted(
     run_laid(&job, threads, h.a as usize, updates, budget, cells)
 }
 
-// "Refusals give ff, the line, and zeros."
-fn refusal(number: u8, line: usize) -> Answer
-    ensures { said result ≡ refused_at number line }
-{
-    Answer {
-        number: number as u32,
-        body: 0xff,
-        place: (line % 0x1_0000_0000) as u32,
-        time: 0,
-        instructions: 0,
-        choices: 0,
-        inputs: 0,
-        threads: 0,
-    }
+// Why a run is refused: too many choices, too many inputs, or what is wrong with the image or the room for its cells.
+#[derive(Clone, Copy, Debug, PartialEq, Eq)]
+enum Refusal {
+    Choices,
+    Inputs,
+    Image(image::Refusal),
 }
 
-// The refusal of a table, or of a buffer too short for the cells.
-fn refused(r: Refusal) -> Answer
-    ensures { said result ≡ refused_at (told_of (Err r)).number (told_of (Err r)).line }
-{
-    refusal(r.number(), r.line())
+impl Refusal {
+    ghost use Rattle.run.specs.Refusals.{reason};
+
+    // "Refusals give ff, the line, and zeros."
+    fn answer(self) -> Answer
+        ensures { said result ≡ refused_at (reason self).number (reason self).line }
+    {
+        let (number, line) = match self {
+            Refusal::Choices => (9, 1),
+            Refusal::Inputs => (9, 2),
+            Refusal::Image(refusal) => (refusal.number(), refusal.line()),
+        };
+        Answer {
+            number: u32::from(number),
+            body: 0xff,
+            place: (line % 0x1_0000_0000) as u32,
+            time: 0,
+            instructions: 0,
+            choices: 0,
+            inputs: 0,
+            threads: 0,
+        }
+    }
 }
 
 // Runs a design on a table, with the order of threads, the inputs and the budget as given, and the design's cells in the lent ones.
@@ -155,16 +165,16 @@ pub fn run(table: &[u64], choices: &[u8], inputs: &[u32], budget: u32, cells: &m
     ensures { record { answer = said result; cells = cells.new } ≡ asked_for (job_of table.now choices.now inputs.now budget) cells.old }
 {
     if Image::CHOICES < choices.len() {
-        return refusal(9, 1);
+        return Refusal::Choices.answer();
     }
     if Image::INPUTS < inputs.len() {
-        return refusal(9, 2);
+        return Refusal::Inputs.answer();
     }
     if cells.len() < Image::CELLS as usize {
-        return refused(Refusal::Room);
+        return Refusal::Image(image::Refusal::Room).answer();
     }
     match judge::judge(table) {
         Ok(_) => run_accepted(table, choices, inputs, budget, cells),
-        Err(refusal) => refused(refusal),
+        Err(refusal) => Refusal::Image(refusal).answer(),
     }
 }

@@ -1,4 +1,5 @@
 use Rattle.std.proofs.Common.{ℕ, List, ◌<◌, ◌≤◌, ◌≡◌, take, map, Some, length, refl, sym, ap, ◌∙◌, arith, length-append, length-take-le}
+use borrow.Author.Tests.{ltb-true}
 use Rattle.std.proofs.Math.ListN.{length-take}
 use Rattle.std.proofs.lemmas.List.{take-append-le}
 use Rattle.program.proofs.Lines.{cut_there, numbers_unended, numbers_ragged, numbers_many, numbers_there}
@@ -32,7 +33,7 @@ loop-i-init g c = numbers_begin _ _ _
 
 pub returns-in_err-x : goal.returns-in_err-x
 returns-in_err-x g c =
-    let some = g.met.T.Number.some in
+    let some = ltb-true 0 _ g.met.T.Number.some in
     rw (c.from_residual-in_err-x.ensures, ← c.DIGITS-digits.ensures)
     (sym (numbers_there _ _ _ (cut_there _ _ _ c.in_ok-line.ensures) _ (length c.args.room.now) (rw c.DIGITS-digits.ensures some) c.if-line-digits-ne0.false c.if-room-count.false)
     ∙ numbers_stop _ _ _ _ _ (sym c.in_err-x.ensures) (turns _ _ _ c.loop-i-test.true) c.loop-i.invariant)
@@ -47,7 +48,7 @@ loop-i-preserved g c =
 pub returns : goal.returns
 returns g c =
     let cut = cut_there _ _ _ c.in_ok-line.ensures in
-    let some = g.met.T.Number.some in
+    let some = ltb-true 0 _ g.met.T.Number.some in
     let last = ended _ _ _ c.if-room-count.false c.loop-i.auto.i-end c.loop-i-test.false in
     let long = filled _ _ _ c.if-room-count.false c.loop-i.auto.places in (
       rw (← c.DIGITS-digits.ensures)
