@@ -14,13 +14,13 @@ use Rattle.kernel.proofs.Search.{nth_some, nth_past, nth_at}
 use Rattle.sets.specs.Sets.{has}
 use Rattle.sets.specs.Laws.{not_full}
 use Rattle.marks.specs.declared.Marks.{Marks}
-use Rattle.marks.specs.Marks.{idle, may_run, any_runs, first_asked}
+use Rattle.marks.specs.Marks.{idle, may_run, any_runs}
 use Rattle.turns.specs.declared.Control.{Control}
 use Rattle.turns.specs.declared.Control.TheVariants.{Runs, UpdatePhase, DeltaPhase, Turn, Evaluation, TimePhase, Over}
 use Rattle.ending.specs.declared.Ending.{Ending}
 use Rattle.ending.specs.declared.Ending.TheVariants.{NoChoiceLeft, NotRunnable}
 use Rattle.turns.specs.declared.Now.{Now}
-use Rattle.turns.specs.Code.{goes_to, dispatch, chosen_by, choice_by, idle_or, evaluated, when_idle, settled_from, settled}
+use Rattle.turns.specs.Code.{goes_to, dispatch, chosen_by, choice_by, idle_or, evaluated, settled_from, settled}
 
 module _ (choices : List ℕ) (at : ℕ) (m : Marks) where
   pub choice_none : length choices ≤ at → Err NoChoiceLeft ≡ choice_by (nth choices at) m
@@ -77,15 +77,6 @@ pub ruleset evaluated_laws = (evaluated_chosen, evaluated_refused)
 
 -- Evaluation, where the machine stands there
 module _ (choices : List ℕ) (n : Now) where
-  pub settle_turn : (x : Now) → n.control ≡ Turn → x ≡ evaluated choices TimePhase n → x ≡ settled choices n
-  unfolding settled
-  settle_turn x e q = q ∙ ap (settled_from choices n) (sym e)
-
-  pub settle_evaluation : (x : Now) (c : Control) → n.control ≡ Evaluation → c ≡ when_idle (first_asked n.marks) → x ≡ evaluated choices c n → x ≡ settled choices n
-  unfolding settled
-  settle_evaluation x c e i q =
-      q ∙ ap (λ (y : Control). evaluated choices y n) i ∙ ap (settled_from choices n) (sym e)
-
   pub settle_same : (n.control ≡ Turn → ⊥) → (n.control ≡ Evaluation → ⊥) → n ≡ settled choices n
   unfolding settled
   settle_same f g = by n.control refl

@@ -72,6 +72,7 @@ fn judge_body(table: &[u64], c: Counts, k: usize, n: u32, at: usize) -> Result<(
     let kind = kind_of(c, k);
     for line in at..at + n as usize {
         let f = frame_at(table, line)?;
+        // A match, since with `map_err` and a closure the facts of the two refusals did not come through.
         match fault::fault_of(c, kind, n, f) {
             Ok(()) => {}
             Err(Fault::Op) => return Err(Refusal::Op(line)),

@@ -28,7 +28,7 @@ pub fn split_line(text: &[u8]) -> Option<(&[u8], &[u8])>
     Some((line, rest))
 }
 
-// "A refusal (1 to 9)"
+// "A refusal (1 to 9)". A number and no enum: it is asked of the answer as C callers get it.
 pub fn is_refusal(number: u32) -> bool
     ensures { result ≡ between 1 number 9 }
 {

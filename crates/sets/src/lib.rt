@@ -62,7 +62,7 @@ pub fn below(n: usize) -> u32
     (1u32 << (n as u32)) - 1
 }
 
-// The least number of the set; 32 where there is none.
+// The least number of the set. 32 where there is none and no Option: so `least_of` has it, and who asks knows that there is one.
 #[tactic(auto, unfolding(crate::specs::Sets::least_of))]
 pub fn least(s: u32) -> usize
     ensures { result ≡ least_of s }

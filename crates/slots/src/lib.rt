@@ -10,7 +10,7 @@ pub fn get_or<T: Copy>(xs: &[T], i: usize, default: T) -> T
     xs.get(i).copied().unwrap_or(default)
 }
 
-// Stores where there is a place.
+// Stores where there is a place. By index: of a store through `get_mut` it was not proved what the slice is afterwards.
 #[tactic(auto, using(laws::specs::Lists::set_past))]
 pub fn put<T: Copy>(xs: &mut [T], i: usize, x: T)
     ensures { xs.new ≡ set xs.old i x }

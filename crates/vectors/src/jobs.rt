@@ -31,6 +31,7 @@ fn past_lines(text: &[u8], at: usize) -> usize
     ensures upper_bound { result ≤ length text.now }
 {
     let mut line = at;
+    // By whole lines, which no iterator of the library goes by.
     while line < text.len() {
         if is_mark(text[line]) {
             return line;
@@ -66,6 +67,7 @@ fn one_case(rt: &impl Print, text: &[u8], at: usize) -> io::Result<usize>
 
 fn each_case(rt: &impl Print, text: &[u8]) -> io::Result<()> {
     let mut at = 0;
+    // Each case says where the next begins.
     while at < text.len() {
         at = one_case(rt, text, at)?;
     }
