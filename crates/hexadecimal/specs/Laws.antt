@@ -15,7 +15,7 @@ use Rattle.std.proofs.Math.Seq.{get_or_at, get_or-drop, take-suc, length-take-le
 use Rattle.std.proofs.lemmas.List.{get_or-take}
 use Rattle.laws.specs.Choice.{and_left, and_right}
 use Rattle.laws.specs.Lists.{sets_snoc}
-use Rattle.hexadecimal.specs.Hex.{digit_value, digits, value, number_at, digit_of, hex}
+use Rattle.hexadecimal.specs.Hex.{digit_value, digits, value, number_at, digit_of, hex, written}
 use Rattle.hexadecimal.specs.Steps.{Read}
 
 -- a digit
@@ -122,6 +122,12 @@ module _ (bs : List ℕ) (at n : ℕ) where
       either : (t : Bool) → None ≡ (if t && false && digits bs at n then Some (value bs at n) else None)
       either true = refl
       either false = refl
+
+  pub number_past : length bs < at → None ≡ number_at bs at n
+  number_past h = number_cut (omega arith)
+
+  pub number_short : at ≤ length bs → length bs - at < n → None ≡ number_at bs at n
+  number_short h g = number_cut (omega arith)
 
   abbrev part : List ℕ
   part = take n (drop at bs)
@@ -260,3 +266,17 @@ module _ (bs : List ℕ) (at : ℕ) where
       let l : n < length (drop at bs) = omega (arith, length-drop at bs) in
       rw (q, m, digit_back (get_or bs (at + n) 0) b, take-suc (drop at bs) n 0 l, g)
       (ap (λ (xs : List ℕ). xs ++ get_or bs (at + n) 0 ∷ []) (hex_back n (and_left (digits bs at n) (ltb (digit_value (get_or bs (at + n) 0)) 16) e) (omega arith)))
+
+-- a text with digits written, where there is room for them and where there is not
+module _ (x n : ℕ) (bs : List ℕ) (at : ℕ) where
+  pub written_there : (m : List ℕ) → at ≤ length bs → n ≤ length bs - at → m ≡ sets bs at (hex n x) → m ≡ written x n bs at
+  unfolding written
+  written_there m h g e = rw (le-leb (at + n) (length bs) (omega arith)) e
+
+  pub written_cut : at ≤ length bs → length bs - at < n → bs ≡ written x n bs at
+  unfolding written
+  written_cut h g = rw (lt-leb (at + n) (length bs) (omega arith))
+
+  pub written_past : length bs < at → bs ≡ written x n bs at
+  unfolding written
+  written_past h = rw (lt-leb (at + n) (length bs) (omega arith))
