@@ -49,21 +49,20 @@ unfolding digit_of
 spell_six v h = rw (le-ltb v 10 h)
 
 -- the reading loop
-module _ (bs : List ℕ) where
-  pub read_none : Read bs 0 0
+module _ (bs : List ℕ) (at : ℕ) where
+  pub read_none : Read bs at 0 0
   unfolding digits value
   read_none = record { good = refl; number = refl; small = omega arith }
 
-  pub read_turn : (j x v : ℕ) → Read bs j x → v ≡ digit_value (get_or bs j 0) → v < 16 → Read bs (j + 1) (x * 16 + v)
+  pub read_turn : (j x v : ℕ) → Read bs at j x → v ≡ digit_value (get_or bs (at + j) 0) → v < 16 → Read bs at (j + 1) (x * 16 + v)
   unfolding digits value
   read_turn j x v r e h =
       let p : 16 ^ suc j ≡ 16 ^ j * 16 = pow-suc 16 j in
       let b : x < 16 ^ j = r.small in
       let m : x * 16 + v < 16 ^ suc j = rw p (omega arith) in
-      let z : 0 + j ≡ j = omega arith in
-      rw (add-one j) (record { good = rw (r.good, z, ← e, lt-ltb v 16 h); number = rw (← r.number, z, ← e); small = m })
+      rw (add-one j) (record { good = rw (r.good, ← e, lt-ltb v 16 h); number = rw (← r.number, ← e); small = m })
 
-  read_fits : (j x v : ℕ) → Read bs j x → j < 16 → v < 16 → x * 16 + v < 2 ^ 64
+  pub read_fits : (j x v : ℕ) → Read bs at j x → j < 16 → v < 16 → x * 16 + v < 2 ^ 64
   read_fits j x v r l h =
       let o : 0 < 16 = omega arith in
       let k : j ≤ 15 = omega arith in
@@ -72,14 +71,6 @@ module _ (bs : List ℕ) where
       let q : x < 16 ^ 15 = omega arith in
       omega arith
 
-  module _ (n j x : ℕ) (r : Read bs j x) (l : j < n) (s : n ≤ 16) where
-    pub read_mul : x * 16 < 2 ^ 64
-    read_mul = omega (arith, read_fits j x 0 r (omega arith) (omega arith))
-
-    pub read_add : (v : ℕ) → v < 16 → x * 16 + v < 2 ^ 64
-    read_add v h = read_fits j x v r (omega arith) h
-
-module _ (bs : List ℕ) (at : ℕ) where
   not_digits : (j n : ℕ) → ltb (digit_value (get_or bs (at + j) 0)) 16 ≡ false → (j < n → digits bs at n ≡ false) → j < suc n → Dec (j ≡ n) → digits bs at (suc n) ≡ false
   unfolding digits
   not_digits j n e f h (yes q) = rw (← q, e) (and_false (digits bs at j))
@@ -93,42 +84,62 @@ module _ (bs : List ℕ) (at : ℕ) where
   bad_digit j zero h e = absurd (omega arith)
   bad_digit j (suc n) h e = not_digits j n e (λ l. bad_digit j n l e) h (ℕ_discrete j n)
 
--- its arms that answer
-module _ (bs : List ℕ) (n : ℕ) (q : length bs ≡ n) (h : n ≤ 16) where
-  pub number_bad : (j : ℕ) → j < n → digit_value (get_or bs j 0) ≡ 16 → None ≡ number_at bs 0 n
+  -- the arms that answer
+  pub number_long : (n : ℕ) → 16 < n → None ≡ number_at bs at n
   unfolding number_at
-  number_bad j l e =
-      let z : 0 + j ≡ j = omega arith in
-      rw (le-leb n 16 h, le-leb (0 + n) (length bs) (omega arith), bad_digit bs 0 j n l (rw (z, e)))
+  number_long n h = rw (lt-leb n 16 h)
 
-  pub number_good : (j x : ℕ) → Read bs j x → n ≤ j → j ≤ n → Some x ≡ number_at bs 0 n
+  pub number_cut : (n : ℕ) → length bs < at + n → None ≡ number_at bs at n
   unfolding number_at
-  number_good j x r a b =
-      let m : j ≡ n = omega arith in
-      let d : digits bs 0 n ≡ true = rw m at r.good in
-      let v : x ≡ value bs 0 n = rw m at r.number in
-      rw (le-leb n 16 h, le-leb (0 + n) (length bs) (omega arith), d, v)
-
--- the number at a place, and that of the digits there
-module _ (bs : List ℕ) (at n : ℕ) where
-  pub number_long : 16 < n → None ≡ number_at bs at n
-  unfolding number_at
-  number_long h = rw (lt-leb n 16 h)
-
-  pub number_cut : length bs < at + n → None ≡ number_at bs at n
-  unfolding number_at
-  number_cut h = rw (lt-leb (at + n) (length bs) h) (either (leb n 16))
+  number_cut n h = rw (lt-leb (at + n) (length bs) h) (either (leb n 16))
     where
       either : (t : Bool) → None ≡ (if t && false && digits bs at n then Some (value bs at n) else None)
       either true = refl
       either false = refl
 
-  pub number_past : length bs < at → None ≡ number_at bs at n
-  number_past h = number_cut (omega arith)
+  pub number_past : (n : ℕ) → length bs < at → None ≡ number_at bs at n
+  number_past n h = number_cut n (omega arith)
 
-  pub number_short : at ≤ length bs → length bs - at < n → None ≡ number_at bs at n
-  number_short h g = number_cut (omega arith)
+  pub number_short : (n : ℕ) → at ≤ length bs → length bs - at < n → None ≡ number_at bs at n
+  number_short n h g = number_cut n (omega arith)
 
+  module _ (n : ℕ) (h : n ≤ 16) (g : at + n ≤ length bs) where
+    pub number_bad : (j v : ℕ) → j < n → v ≡ digit_value (get_or bs (at + j) 0) → 16 ≤ v → None ≡ number_at bs at n
+    unfolding number_at
+    number_bad j v l e m = rw (le-leb n 16 h, le-leb (at + n) (length bs) g, bad_digit j n l (rw (← e) (le-ltb v 16 m)))
+
+    pub number_good : (j x : ℕ) → Read bs at j x → n ≤ j → j ≤ n → Some x ≡ number_at bs at n
+    unfolding number_at
+    number_good j x r a b =
+        let m : j ≡ n = omega arith in
+        let d : digits bs at n ≡ true = rw m at r.good in
+        let q : x ≡ value bs at n = rw m at r.number in
+        rw (le-leb n 16 h, le-leb (at + n) (length bs) g, d, q)
+
+module _ (bs : List ℕ) (at n j x : ℕ) (r : Read bs at j x) (l : j < n) (s : n ≤ 16) where
+  pub read_mul : x * 16 < 2 ^ 64
+  read_mul = omega (arith, read_fits bs at j x 0 r (omega arith) (omega arith))
+
+  pub read_add : (v : ℕ) → v < 16 → x * 16 + v < 2 ^ 64
+  read_add v h = read_fits bs at j x v r (omega arith) h
+
+-- the same at the start of the digits
+module _ (bs : List ℕ) (n : ℕ) (q : length bs ≡ n) (h : n ≤ 16) where
+  pub next_digit : (j x v : ℕ) → Read bs 0 j x → v ≡ digit_value (get_or bs j 0) → v < 16 → Read bs 0 (j + 1) (x * 16 + v)
+  next_digit j x v r e l =
+      let z : 0 + j ≡ j = omega arith in
+      read_turn bs 0 j x v r (rw z e) l
+
+  pub no_digit : (j : ℕ) → j < n → digit_value (get_or bs j 0) ≡ 16 → None ≡ number_at bs 0 n
+  no_digit j l e =
+      let z : 0 + j ≡ j = omega arith in
+      number_bad bs 0 n h (omega arith) j 16 l (rw z (sym e)) (omega arith)
+
+  pub all_digits : (j x : ℕ) → Read bs 0 j x → n ≤ j → j ≤ n → Some x ≡ number_at bs 0 n
+  all_digits = number_good bs 0 n h (omega arith)
+
+-- the number at a place is that of the digits there
+module _ (bs : List ℕ) (at n : ℕ) where
   abbrev part : List ℕ
   part = take n (drop at bs)
 
