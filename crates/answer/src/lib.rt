@@ -23,7 +23,7 @@ pub struct Answer {
     pub threads: u32,
 }
 
-// The answer of a run that is over for k, at place p of body b.
+// The answer of a run that is over for k, at place p of body b. Field by field, since the state is of another type.
 fn answer_as(n: Now, budget: u32, k: Ending, b: usize, p: usize) -> Answer
     ensures { said result ≡ answer_as budget n k b p }
 {

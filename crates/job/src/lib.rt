@@ -27,7 +27,8 @@ pub const LONGEST_JOB: usize = 9
     + 17 * Image::LINES
     + 1;
 
-// Why a job is not run: the first of its lines that is missing or malformed, or what the image is refused with.
+// Why a job is not run: the first of its lines that is missing or malformed, or what the image is refused with. Of that the number and a line
+// that fits the answer: with an `image::Refusal` each step from the image up would have to say that its line fits.
 #[derive(Clone, Copy, Debug, PartialEq, Eq)]
 enum Refusal {
     Budget,

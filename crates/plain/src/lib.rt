@@ -9,7 +9,7 @@ use ending::Ending;
 use frame::Frame;
 use image::Image;
 
-// A cell's value takes a place's type; every one fits.
+// A cell's value takes a place's type; every one fits. By `as`, since the library has no `From` for it.
 fn wide(x: u32) -> usize
     ensures { (result ≡ x) × (result < 4294967296) }
 {

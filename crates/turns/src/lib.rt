@@ -52,7 +52,7 @@ pub struct Job<'a> {
 }
 
 // The rest of the state: what each event pends for and each thread waits for, where it is a time, the threads that wait for each
-// event, and each body's place.
+// event, and each body's place. Two lists by event and no list of pairs, so that `dues::take_due` serves events and threads alike.
 #[derive(Drop)]
 pub struct State<'a> {
     pub pends: &'a mut [u64],
