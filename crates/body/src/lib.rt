@@ -5,7 +5,7 @@ ghost use Rattle.std.specs.Prelude.{◌≡◌, ◌+◌, ◌-◌, ◌<◌, Ok, le
 ghost use Rattle.frame.specs.Ops.{meaning_of};
 ghost use Rattle.plain.specs.Plain.{run_plain};
 ghost use Rattle.plain.specs.Laws.{Inside};
-ghost use Rattle.turns.specs.Code.{lists_of, code_of, kept_of, threads_of, obeyed, stays_at, next_input, completed_to, completed, ran_to, body_run_of};
+ghost use Rattle.turns.specs.Code.{lists_of, code_of, kept_of, obeyed, stays_at, next_input, completed_to, completed, ran_to, body_run_of};
 
 use frame::Frame;
 use marks::Marks;
@@ -73,6 +73,7 @@ fn complete(done: Done, n: Now, count: usize, b: usize, threads: usize) -> Now
 fn obey_at(
     f: Frame,
     inputs: &[u32],
+    threads: usize,
     b: usize,
     p: usize,
     n: Now,
@@ -80,10 +81,9 @@ fn obey_at(
     cells: &mut [u32],
 ) -> Now
     requires { p < 1024 }
-    ensures { code_of result s.new cells.new ≡ completed (threads_of s.old) (length inputs.now) b p (obeyed (threads_of s.old) b f n inputs.now (kept_of n s.old) cells.old (meaning_of f.op)) n s.old.places.now }
+    ensures { code_of result s.new cells.new ≡ completed threads (length inputs.now) b p (obeyed threads b f n inputs.now (kept_of n s.old) cells.old (meaning_of f.op)) n s.old.places.now }
 {
-    let threads = s.threads();
-    match obey::obey(f, b, n, inputs, s, cells) {
+    match obey::obey(f, b, n, threads, inputs, s, cells) {
         Ok(done) => {
             let n = complete(done, n, inputs.len(), b, threads);
             slots::put(s.places, b, p + 1);
@@ -99,21 +99,23 @@ fn after_plain(
     ran: Ran,
     job: &Job<'_>,
     base: usize,
+    threads: usize,
     b: usize,
     n: Now,
     s: &mut State<'_>,
     cells: &mut [u32],
 ) -> Now
     requires { ran.end ≡ End.Left → Inside job.now.table.now base 0 ran.place }
-    ensures { code_of result s.new cells.new ≡ ran_to job.now.table.now job.now.inputs.now (threads_of s.old) base b ran.end ran.place n (lists_of s.old) s.old.places.now cells.old }
+    ensures { code_of result s.new cells.new ≡ ran_to job.now.table.now job.now.inputs.now threads base b ran.end ran.place n (lists_of s.old) s.old.places.now cells.old }
 {
     let p = ran.place;
     match ran.end {
-        End::Ended => moves::end_body(n, b, s.threads()),
+        End::Ended => moves::end_body(n, b, threads),
         End::Stopped(k) => n.to(Control::Over(k, b, p)),
         End::Left => obey_at(
             Frame::from(job.table[base + p]),
             job.inputs,
+            threads,
             b,
             p,
             n,
@@ -142,10 +144,17 @@ fn run_from_place(
     ran
 }
 
-// Body b runs: its plain instructions, and what ended them.
+// Body b runs: its plain instructions, and what ended them. The count of threads is given beside the state, since `body_run` is over any.
 #[tactic(auto, unfolding(turns::specs::Code::body_run))]
-pub fn run(job: &Job<'_>, b: usize, n: Now, s: &mut State<'_>, cells: &mut [u32]) -> Now
-    ensures { code_of result s.new cells.new ≡ body_run_of job.now (threads_of s.old) b (code_of n s.old cells.old) }
+pub fn run(
+    job: &Job<'_>,
+    threads: usize,
+    b: usize,
+    n: Now,
+    s: &mut State<'_>,
+    cells: &mut [u32],
+) -> Now
+    ensures { code_of result s.new cells.new ≡ body_run_of job.now threads b (code_of n s.old cells.old) }
 {
     let base = slots::get_or(job.firsts, b, 0);
     let ran = run_from_place(job, base, b, n.left, s.places, cells);
@@ -153,5 +162,5 @@ pub fn run(job: &Job<'_>, b: usize, n: Now, s: &mut State<'_>, cells: &mut [u32]
         left: ran.left,
         ..n
     };
-    after_plain(ran, job, base, b, n, s, cells)
+    after_plain(ran, job, base, threads, b, n, s, cells)
 }

@@ -29,7 +29,7 @@ fn turn_once(job: &Job<'_>, n: Now, s: &mut State<'_>, cells: &mut [u32]) -> Now
 {
     let n = evaluation::settle(job.choices, n);
     match n.control {
-        Control::Runs(b) => body::run(job, b, n, s, cells),
+        Control::Runs(b) => body::run(job, s.threads(), b, n, s, cells),
         Control::UpdatePhase => update_phase(n, s),
         Control::DeltaPhase => moves::delta_phase(n, s.waiters),
         Control::TimePhase => moves::time_phase(n, s),

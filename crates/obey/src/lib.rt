@@ -5,7 +5,7 @@ ghost use Rattle.std.specs.Prelude.{◌≡◌, get_or, set};
 ghost use Rattle.kernel.specs.Search.{nth};
 ghost use Rattle.frame.specs.Ops.{meaning_of};
 ghost use Rattle.shows.specs.Shows.{kept};
-ghost use Rattle.turns.specs.Code.{lists_of, kept_of, threads_of, is_thread, did_of, wait_came, waited_on, waited_till, adds_time, full, obeyed};
+ghost use Rattle.turns.specs.Code.{lists_of, kept_of, is_thread, did_of, wait_came, waited_on, waited_till, adds_time, full, obeyed};
 ghost use Rattle.obey.specs.Tests.{input_by, may_ask, may_begin, has_room};
 
 use ending::Ending;
@@ -44,12 +44,12 @@ fn is_thread(b: usize, threads: usize) -> bool
 
 // Op 60: wait for event d.
 #[tactic(auto, unfolding(turns::specs::Code::waited_on))]
-fn wait_event(b: usize, d: usize, marks: Marks, s: &mut State<'_>) -> Done
-    ensures came { result.came ≡ wait_came (threads_of s.old) b }
-    ensures kept_after { kept result.marks (lists_of s.new) ≡ waited_on (threads_of s.old) b d (kept marks (lists_of s.old)) }
+fn wait_event(b: usize, d: usize, threads: usize, marks: Marks, s: &mut State<'_>) -> Done
+    ensures came { result.came ≡ wait_came threads b }
+    ensures kept_after { kept result.marks (lists_of s.new) ≡ waited_on threads b d (kept marks (lists_of s.old)) }
     ensures places_stay { s.new.places.now ≡ s.old.places.now }
 {
-    if is_thread(b, s.threads()) {
+    if is_thread(b, threads) {
         return Done {
             came: Obeyed::Waits,
             marks: waits::wait_event(marks, s.waiters, b - 1, d),
@@ -60,12 +60,12 @@ fn wait_event(b: usize, d: usize, marks: Marks, s: &mut State<'_>) -> Done
 
 // Op 61: wait for the moment q.
 #[tactic(auto, unfolding(turns::specs::Code::waited_till))]
-fn wait_time(b: usize, q: u64, marks: Marks, s: &mut State<'_>) -> Done
-    ensures came { result.came ≡ wait_came (threads_of s.old) b }
-    ensures kept_after { kept result.marks (lists_of s.new) ≡ waited_till (threads_of s.old) b q (kept marks (lists_of s.old)) }
+fn wait_time(b: usize, q: u64, threads: usize, marks: Marks, s: &mut State<'_>) -> Done
+    ensures came { result.came ≡ wait_came threads b }
+    ensures kept_after { kept result.marks (lists_of s.new) ≡ waited_till threads b q (kept marks (lists_of s.old)) }
     ensures places_stay { s.new.places.now ≡ s.old.places.now }
 {
-    if is_thread(b, s.threads()) {
+    if is_thread(b, threads) {
         return Done {
             came: Obeyed::Waits,
             marks: waits::wait_time(marks, s.waits, b - 1, q),
@@ -132,17 +132,19 @@ fn adds_time(marks: Marks, e: usize, s: &State<'_>) -> bool
     !sets::has(marks.pending, e) && e < s.pends.len() && dues::LAST_TIME < s.pends[e]
 }
 
-// An instruction of body b that is not plain: the one decision over the other op numbers.
+// An instruction of body b that is not plain: the one decision over the other op numbers. The count of threads is given beside the state,
+// since `obeyed` is over any.
 #[tactic(auto, using(crate::proofs::Decides::obey_other), unfolding(turns::specs::Code::obeyed, frame::specs::Ops::meaning_of))]
 pub fn obey(
     f: Frame,
     b: usize,
     n: Now,
+    threads: usize,
     inputs: &[u32],
     s: &mut State<'_>,
     cells: &mut [u32],
 ) -> Result<Done, Ending>
-    ensures value { did_of result n s.new cells.new ≡ obeyed (threads_of s.old) b f n inputs.now (kept_of n s.old) cells.old (meaning_of f.op) }
+    ensures value { did_of result n s.new cells.new ≡ obeyed threads b f n inputs.now (kept_of n s.old) cells.old (meaning_of f.op) }
     ensures places_stay { s.new.places.now ≡ s.old.places.now }
 {
     let d = f.d as usize;
@@ -156,11 +158,11 @@ pub fn obey(
                 marks: m,
             })
         }
-        0x60 => Ok(wait_event(b, d, m, s)),
+        0x60 => Ok(wait_event(b, d, threads, m, s)),
         0x61 => {
             let q = dues::ask(n.time, slots::get_or(cells, a, 0));
             has_room(true, q, s)?;
-            Ok(wait_time(b, q, m, s))
+            Ok(wait_time(b, q, threads, m, s))
         }
         0x62 => {
             may_ask(b, n.stage)?;
