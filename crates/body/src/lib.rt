@@ -5,7 +5,7 @@ ghost use Rattle.std.specs.Prelude.{◌≡◌, ◌+◌, ◌-◌, ◌<◌, Ok, le
 ghost use Rattle.frame.specs.Ops.{meaning_of};
 ghost use Rattle.plain.specs.Plain.{run_plain};
 ghost use Rattle.plain.specs.Laws.{Inside};
-ghost use Rattle.turns.specs.Code.{lists_of, code_of, kept_of, obeyed, stays_at, next_input, completed_to, completed, ran_to, body_run_of};
+ghost use Rattle.turns.specs.Code.{lists_of, code_of, kept_of, SameSlices, obeyed, stays_at, next_input, completed_to, completed, ran_to, body_run_of};
 
 use frame::Frame;
 use marks::Marks;
@@ -81,7 +81,8 @@ fn obey_at(
     cells: &mut [u32],
 ) -> Now
     requires { p < 1024 }
-    ensures { code_of result s.new cells.new ≡ completed threads (length inputs.now) b p (obeyed threads b f n inputs.now (kept_of n s.old) cells.old (meaning_of f.op)) n s.old.places.now }
+    ensures value { code_of result s.new cells.new ≡ completed threads (length inputs.now) b p (obeyed threads b f n inputs.now (kept_of n s.old) cells.old (meaning_of f.op)) n s.old.places.now }
+    ensures same_slices { SameSlices s.old s.new }
 {
     match obey::obey(f, b, n, threads, inputs, s, cells) {
         Ok(done) => {
@@ -106,7 +107,8 @@ fn after_plain(
     cells: &mut [u32],
 ) -> Now
     requires { ran.end ≡ End.Left → Inside job.now.table.now base 0 ran.place }
-    ensures { code_of result s.new cells.new ≡ ran_to job.now.table.now job.now.inputs.now threads base b ran.end ran.place n (lists_of s.old) s.old.places.now cells.old }
+    ensures value { code_of result s.new cells.new ≡ ran_to job.now.table.now job.now.inputs.now threads base b ran.end ran.place n (lists_of s.old) s.old.places.now cells.old }
+    ensures same_slices { SameSlices s.old s.new }
 {
     let p = ran.place;
     match ran.end {
@@ -154,7 +156,8 @@ pub fn run(
     s: &mut State<'_>,
     cells: &mut [u32],
 ) -> Now
-    ensures { code_of result s.new cells.new ≡ body_run_of job.now threads b (code_of n s.old cells.old) }
+    ensures value { code_of result s.new cells.new ≡ body_run_of job.now threads b (code_of n s.old cells.old) }
+    ensures same_slices { SameSlices s.old s.new }
 {
     let base = slots::get_or(job.firsts, b, 0);
     let ran = run_from_place(job, base, b, n.left, s.places, cells);

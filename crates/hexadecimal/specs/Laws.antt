@@ -20,31 +20,31 @@ use Rattle.hexadecimal.specs.Steps.{Read}
 
 -- a digit
 module _ (b : ℕ) where
-  digit_low : b < 0x30 → 16 ≡ digit_value b
+  pub digit_low : b < 0x30 → 16 ≡ digit_value b
   unfolding digit_value
   digit_low h = rw (lt-leb 0x30 b h, lt-leb 0x61 b (omega arith))
 
-  digit_ten : 0x30 ≤ b → b ≤ 0x39 → b - 0x30 ≡ digit_value b
+  pub digit_ten : 0x30 ≤ b → b ≤ 0x39 → b - 0x30 ≡ digit_value b
   unfolding digit_value
   digit_ten h g = rw (le-leb 0x30 b h, le-leb b 0x39 g)
 
-  digit_gap : 0x39 < b → b < 0x61 → 16 ≡ digit_value b
+  pub digit_gap : 0x39 < b → b < 0x61 → 16 ≡ digit_value b
   unfolding digit_value
   digit_gap h g = rw (le-leb 0x30 b (omega arith), lt-leb b 0x39 h, lt-leb 0x61 b g)
 
-  digit_six : 0x61 ≤ b → b ≤ 0x66 → b - 0x57 ≡ digit_value b
+  pub digit_six : 0x61 ≤ b → b ≤ 0x66 → b - 0x57 ≡ digit_value b
   unfolding digit_value
   digit_six h g = rw (le-leb 0x30 b (omega arith), lt-leb b 0x39 (omega arith), le-leb 0x61 b h, le-leb b 0x66 g)
 
-  digit_high : 0x66 < b → 16 ≡ digit_value b
+  pub digit_high : 0x66 < b → 16 ≡ digit_value b
   unfolding digit_value
   digit_high h = rw (le-leb 0x30 b (omega arith), lt-leb b 0x39 (omega arith), le-leb 0x61 b (omega arith), lt-leb b 0x66 h)
 
-spell_ten : (v : ℕ) → v < 10 → 0x30 + v ≡ digit_of v
+pub spell_ten : (v : ℕ) → v < 10 → 0x30 + v ≡ digit_of v
 unfolding digit_of
 spell_ten v h = rw (lt-ltb v 10 h)
 
-spell_six : (v : ℕ) → 10 ≤ v → 0x57 + v ≡ digit_of v
+pub spell_six : (v : ℕ) → 10 ≤ v → 0x57 + v ≡ digit_of v
 unfolding digit_of
 spell_six v h = rw (le-ltb v 10 h)
 

@@ -17,7 +17,8 @@ use Rattle.turns.specs.declared.Control.{Control}
 use Rattle.turns.specs.declared.Control.TheVariants.{Runs, UpdatePhase, DeltaPhase, Turn, Evaluation, TimePhase, Over}
 use Rattle.turns.specs.declared.Now.{Now}
 use Rattle.shows.specs.Shows.{Lists}
-use Rattle.turns.specs.Code.{code, settled, turn_from, turn, is_over, turns, Code}
+use Rattle.turns.specs.declared.State.{State}
+use Rattle.turns.specs.Code.{code, settled, turn_from, turn, is_over, turns, Code, SameSlices}
 use Rattle.evaluation.proofs.Arms.{settle_same}
 
 -- The update phase
@@ -35,6 +36,10 @@ asked_few m u e = by (eqb (m.requested % 4294967296) 0) refl e
 
 pub few_asked : (m : Marks) (u : ℕ) (r : Option ℕ) → found_of r ≡ first_asked m → r ≡ Some u → u < 32
 few_asked m u r h e = asked_few m u (sym h ∙ ap found_of e)
+
+-- What a turn lends it lends of the same slices, and so do two
+pub same_slices : (a b c : State) → SameSlices a b → SameSlices b c → SameSlices a c
+same_slices a b c p q = (q.0 ∙ p.0, q.1 ∙ p.1, q.2 ∙ p.2, q.3 ∙ p.3)
 
 -- The loop
 module _ (table choices inputs firsts : List ℕ) (t : ℕ) where

@@ -4,7 +4,7 @@
 ghost use Rattle.std.specs.Prelude.{◌≡◌, []};
 ghost use Rattle.dues.specs.Codes.{due_time};
 ghost use Rattle.shows.specs.Shows.{lists};
-ghost use Rattle.turns.specs.Code.{lists_of, delta_to, delta_in, least_of, is_beyond, timed_by, served_by, phase_ending, ends_to};
+ghost use Rattle.turns.specs.Code.{lists_of, SameSlices, delta_to, delta_in, least_of, is_beyond, timed_by, served_by, phase_ending, ends_to};
 
 use ending::Ending;
 use turns::{Control, Now, Stage, State};
@@ -30,6 +30,7 @@ pub fn time_phase(n: Now, s: &mut State<'_>) -> Now
     ensures value { result ≡ timed_by (least_of (lists_of s.old)) n (lists_of s.old) }
     ensures lists_after { lists_of s.new ≡ served_by (least_of (lists_of s.old)) n (lists_of s.old) }
     ensures places_stay { s.new.places.now ≡ s.old.places.now }
+    ensures same_slices { SameSlices s.old s.new }
 {
     let Some(t) = least_due(s) else {
         return Now {

@@ -5,7 +5,7 @@ ghost use Rattle.std.specs.Prelude.{◌≡◌, get_or, set};
 ghost use Rattle.kernel.specs.Search.{nth};
 ghost use Rattle.frame.specs.Ops.{meaning_of};
 ghost use Rattle.shows.specs.Shows.{kept};
-ghost use Rattle.turns.specs.Code.{lists_of, kept_of, is_thread, did_of, wait_came, waited_on, waited_till, adds_time, full, obeyed};
+ghost use Rattle.turns.specs.Code.{lists_of, kept_of, SameSlices, is_thread, did_of, wait_came, waited_on, waited_till, adds_time, full, obeyed};
 ghost use Rattle.obey.specs.Tests.{input_by, may_ask, may_begin, has_room};
 
 use ending::Ending;
@@ -48,6 +48,7 @@ fn wait_event(b: usize, d: usize, threads: usize, marks: Marks, s: &mut State<'_
     ensures came { result.came ≡ wait_came threads b }
     ensures kept_after { kept result.marks (lists_of s.new) ≡ waited_on threads b d (kept marks (lists_of s.old)) }
     ensures places_stay { s.new.places.now ≡ s.old.places.now }
+    ensures same_slices { SameSlices s.old s.new }
 {
     if is_thread(b, threads) {
         return Done {
@@ -64,6 +65,7 @@ fn wait_time(b: usize, q: u64, threads: usize, marks: Marks, s: &mut State<'_>) 
     ensures came { result.came ≡ wait_came threads b }
     ensures kept_after { kept result.marks (lists_of s.new) ≡ waited_till threads b q (kept marks (lists_of s.old)) }
     ensures places_stay { s.new.places.now ≡ s.old.places.now }
+    ensures same_slices { SameSlices s.old s.new }
 {
     if is_thread(b, threads) {
         return Done {
@@ -146,6 +148,7 @@ pub fn obey(
 ) -> Result<Done, Ending>
     ensures value { did_of result n s.new cells.new ≡ obeyed threads b f n inputs.now (kept_of n s.old) cells.old (meaning_of f.op) }
     ensures places_stay { s.new.places.now ≡ s.old.places.now }
+    ensures same_slices { SameSlices s.old s.new }
 {
     let d = f.d as usize;
     let a = f.a as usize;

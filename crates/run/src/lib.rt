@@ -24,7 +24,7 @@ fn put_firsts(table: &[u64], bodies: usize, firsts: &mut [usize])
     let mut at = 1 + bodies;
     for (k, line) in table[1..1 + bodies].iter().enumerate() {
         firsts[k] = at;
-        at = at + Frame::from(*line).imm as usize;
+        at += Frame::from(*line).imm as usize;
     }
     firsts[bodies] = at;
 }

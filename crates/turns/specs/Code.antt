@@ -1,5 +1,5 @@
 -- What the code makes of its numbers, turn by turn. Nothing public speaks of it: proofs/ shows that each turn is some steps of the machine.
-use Rattle.std.specs.Prelude.{ℕ, zero, suc, ◌+◌, ◌-◌, ◌%◌, Bool, true, false, not, ◌&&◌, List, [], ◌∷◌, map, eqb, ltb, leb, length, get_or, set, replicate, if◌then◌else◌, Option, Some, None, Result, Ok, Err}
+use Rattle.std.specs.Prelude.{◌≡◌, ℕ, zero, suc, ◌+◌, ◌-◌, ◌%◌, Bool, true, false, not, ◌&&◌, List, [], ◌∷◌, map, eqb, ltb, leb, length, get_or, set, replicate, if◌then◌else◌, Option, Some, None, Result, Ok, Err}
 use Rattle.laws.specs.Choice.{between}
 use Rattle.frame.specs.declared.Frame.{Frame}
 use Rattle.frame.specs.Fields.{fields}
@@ -54,6 +54,12 @@ code_of n s cs = code n (lists_of s) s.places.now cs
 -- there are as many threads as waits for a time
 abbrev pub threads_of : State → ℕ
 threads_of s = length s.waits.now
+
+-- the slices that b lends are those that a lent, so that who lent them learns what became of them
+abbrev pub SameSlices : (a b : State) → Type 0
+SameSlices a b =
+    (b.pends.ghost_name ≡ a.pends.ghost_name) × (b.waits.ghost_name ≡ a.waits.ghost_name)
+    × (b.waiters.ghost_name ≡ a.waiters.ghost_name) × (b.places.ghost_name ≡ a.places.ghost_name)
 
 -- the single numbers: at another place; with other marks there; with so much left of the budget
 abbrev pub goes_to : Control → Now → Now
