@@ -1,10 +1,11 @@
 // What a run answers, made of its last state.
 #![tactic(auto)]
 
-ghost use Rattle.std.specs.Prelude.{◌≡◌, ◌-◌};
+ghost use Rattle.std.specs.Prelude.{◌≡◌};
 ghost use Rattle.turns.specs.Code.{answer_as, answered};
 ghost use Rattle.answer.specs.Answer.{said};
 
+use ending::Ending;
 use turns::{Control, Now};
 
 // What a run answers: its number, the body and place of the stopping instruction, the time, the instructions completed, the choices
@@ -22,45 +23,29 @@ pub struct Answer {
     pub threads: u32,
 }
 
-// What of the budget is spent.
-fn spent(budget: u32, left: u32) -> u32
-    ensures { result ≡ budget - left }
-{
-    if budget < left {
-        return 0;
-    }
-    budget - left
-}
-
-// The answer of a run that stopped with number k at place p of body b.
-fn answer_as(n: Now, budget: u32, k: u8, b: usize, p: usize) -> Answer
+// The answer of a run that is over for k, at place p of body b. Field by field, since the state is of another type.
+fn answer_as(n: Now, budget: u32, k: Ending, b: usize, p: usize) -> Answer
     ensures { said result ≡ answer_as budget n k b p }
 {
-    let marks = n.marks;
     Answer {
-        number: k as u32,
+        number: u32::from(k.number()),
         body: (b % 0x1_0000_0000) as u32,
         place: (p % 0x1_0000_0000) as u32,
         time: n.time,
-        instructions: spent(budget, n.left),
+        instructions: budget.saturating_sub(n.left),
         choices: (n.chosen % 0x1_0000_0000) as u32,
         inputs: (n.taken % 0x1_0000_0000) as u32,
-        threads: marks::not_ended(marks),
+        threads: n.marks.not_ended(),
     }
 }
 
 // The answer of a run that stands where it is over.
+#[tactic(auto, unfolding(turns::specs::Code::answered))]
 pub fn answer_of(n: Now, budget: u32) -> Answer
     ensures { said result ≡ answered budget n }
 {
-    let c = n.control;
-    match c {
+    match n.control {
         Control::Over(k, b, p) => answer_as(n, budget, k, b, p),
-        Control::Runs(_) => answer_as(n, budget, 0, 0, 0),
-        Control::UpdatePhase => answer_as(n, budget, 0, 0, 0),
-        Control::DeltaPhase => answer_as(n, budget, 0, 0, 0),
-        Control::Turn => answer_as(n, budget, 0, 0, 0),
-        Control::Evaluation => answer_as(n, budget, 0, 0, 0),
-        Control::TimePhase => answer_as(n, budget, 0, 0, 0),
+        _ => answer_as(n, budget, Ending::Quiet, 0, 0),
     }
 }

@@ -1,6 +1,4 @@
 // One case: an answer is printed after the case's label.
-ghost use Rattle.std.specs.Prelude.{◌≡◌, set as stored};
-
 use image::Verdict;
 use std::io;
 
@@ -9,38 +7,26 @@ pub fn heading(rt: &impl Print, words: &[u8]) -> io::Result<()> {
     rt.write_all(b"\n")
 }
 
-pub fn two_digits(rt: &impl Print, x: u8) -> io::Result<()> {
-    print!(rt; "{x:02x}")
-}
-
 // An acceptance comes with a count, a refusal at a line.
 pub fn answer(rt: &impl Print, a: Verdict) -> io::Result<()> {
-    rt.write_all(b": ")?;
-    two_digits(rt, a.number())?;
-    if a.number() == 0 {
-        rt.write_all(b" with ")?;
-    } else {
-        rt.write_all(b" at ")?;
+    match a {
+        Ok(count) => println!(rt; ": 00 with {count}"),
+        Err(r) => {
+            let number = r.number();
+            let line = r.line();
+            println!(rt; ": {number:02x} at {line}")
+        }
     }
-    let place = a.line();
-    println!(rt; "{place}")
 }
 
 // The number alone; xx where it comes with another count of frames or at another line.
 pub fn mark(rt: &impl Print, a: Verdict, frames: usize, line: usize) -> io::Result<()> {
-    let place = if a.number() == 0 { frames } else { line };
-    rt.write_all(b" ")?;
-    if a.line() == place {
-        two_digits(rt, a.number())
-    } else {
-        rt.write_all(b"xx")
-    }
-}
-
-pub fn set(table: &mut [u64], line: usize, frame: u64)
-    ensures { table.new ≡ stored table.old line frame }
-{
-    if line < table.len() {
-        table[line] = frame;
+    match a {
+        Ok(count) if count == frames => rt.write_all(b" 00"),
+        Err(r) if r.line() == line => {
+            let number = r.number();
+            print!(rt; " {number:02x}")
+        }
+        _ => rt.write_all(b" xx"),
     }
 }

@@ -32,7 +32,7 @@ fn tried(line: usize, instruction: u64) -> Verdict {
         0x4000_0000_0000_0000,
         0x4000_0000_0000_0000,
     ];
-    case::set(&mut table, line, instruction);
+    slots::put(&mut table, line, instruction);
     judge::judge(&table)
 }
 
@@ -40,13 +40,8 @@ fn tried(line: usize, instruction: u64) -> Verdict {
 fn marks(rt: &impl Print, line: usize, instruction: u64, bit: u64, values: &[u64]) -> io::Result<()>
     requires { bit < 64 }
 {
-    for i in 0..values.len() {
-        case::mark(
-            rt,
-            tried(line, instruction | (values[i] << bit)),
-            FRAMES,
-            line,
-        )?;
+    for value in values {
+        case::mark(rt, tried(line, instruction | (value << bit)), FRAMES, line)?;
     }
     Ok(())
 }

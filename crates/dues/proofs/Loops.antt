@@ -5,16 +5,19 @@ use mathlib.Core.List.{List, [], ◌∷◌, map}
 use native.Mathlib.Nat.{le_of_suc-le-suc, not-suc-le-zero, suc-min-suc, add_comm}
 use native.Mathlib.Numerals.{add-one}
 use native.Mathlib.Omega.{arith}
-use lib.ListN.{length, get_or, set, length-set}
-use lib.Seq.{set-get_or}
-use lib.Dec.{eqb-suc-zero}
+use lib.ListN.{length, get_or, set, take}
+use lib.Seq.{take-length}
+use lib.Dec.{eqb, eqb-suc-zero}
+use Rattle.std.proofs.Common.{Bool, cond}
+use Rattle.std.proofs.lemmas.List.Sums.{length-filter, sum_by_more}
+use Rattle.std.specs.List.{filter, count_by}
 use borrow.Author.Tests.{eq-eqb, ne_eqb}
 use Rattle.sets.specs.Sets.{with}
 use Rattle.kernel.specs.Search.{Found, none, found, lesser, least, sum}
 use Rattle.kernel.specs.Kernel.{Due, never, delta, at}
 use Rattle.kernel.specs.Pending.{time_of, is_time}
 use Rattle.dues.specs.Codes.{last_time, for_nothing, moment_of, pend_of}
-use Rattle.dues.specs.Dues.{Least, time_at, count_at, over_code, due_to, due_in}
+use Rattle.dues.specs.Dues.{Least, time_at, count_at, over_code, due_to}
 use Rattle.dues.specs.Laws.{pend_low, pend_high, by_size}
 
 at_end_lem : (A : Type 0) (f : ℕ → A) (x : A) (i n m : ℕ) → x ≡ f i → i ≤ n → n ≤ i → n ≡ m → x ≡ f m
@@ -50,9 +53,6 @@ module _ (f : ℕ → ℕ) where
   map_turn : (l xs : List ℕ) (i x : ℕ) → l ≡ map_to f i xs → x ≡ f (get_or l i 0) → set l i x ≡ map_to f (i + 1) xs
   map_turn l xs i x h e = rw (e, h, not_yet, add-one) (turn i xs)
 
-  map_skip : (l xs : List ℕ) (i : ℕ) → l ≡ map_to f i xs → get_or l i 0 ≡ f (get_or l i 0) → l ≡ map_to f (i + 1) xs
-  map_skip l xs i h e = sym (set-get_or l i 0) ∙ map_turn l xs i (get_or l i 0) h e
-
   all : (i : ℕ) (xs : List ℕ) → length xs ≤ i → map_to f i xs ≡ map f xs
   unfolding map_to
   all zero [] h = refl
@@ -65,7 +65,7 @@ module _ (f : ℕ → ℕ) where
 
 -- The numbers q are over ---------------------------------------------------------------------------------------
 
--- k is the slice after a turn: with a store, or as it was
+-- k is the slice after a turn: with the number of nothing stored, or what stood there
 module _ (q : ℕ) (l k xs : List ℕ) (i : ℕ) (h : l ≡ map_to (over_code q) i xs) where
   held : get_or l i 0 ≡ get_or xs i 0
   held = ap (λ z. get_or z i 0) h ∙ not_yet (over_code q) i xs
@@ -74,9 +74,9 @@ module _ (q : ℕ) (l k xs : List ℕ) (i : ℕ) (h : l ≡ map_to (over_code q)
   unfolding over_code
   over_turn e f = f ∙ map_turn (over_code q) l xs i for_nothing h (rw (over_code, eq-eqb (get_or l i 0) q e))
 
-  pub over_skip : (get_or l i 0 ≡ q → ⊥) → k ≡ l → k ≡ map_to (over_code q) (i + 1) xs
+  pub over_skip : (get_or l i 0 ≡ q → ⊥) → k ≡ set l i (get_or l i 0) → k ≡ map_to (over_code q) (i + 1) xs
   unfolding over_code
-  over_skip e f = f ∙ map_skip (over_code q) l xs i h (rw (over_code, ne_eqb (get_or l i 0) q e))
+  over_skip e f = f ∙ map_turn (over_code q) l xs i (get_or l i 0) h (rw (over_code, ne_eqb (get_or l i 0) q e))
 
   pub due_turn : (s r t : ℕ) → s ≡ due_to q xs i → get_or l i 0 ≡ q → r ≡ with s i → t ≡ r → t ≡ due_to q xs (i + 1)
   unfolding due_to
@@ -86,21 +86,12 @@ module _ (q : ℕ) (l k xs : List ℕ) (i : ℕ) (h : l ≡ map_to (over_code q)
   unfolding due_to
   due_skip s t g e f = f ∙ g ∙ rw (add-one i, ne_eqb (get_or xs i 0) q (λ z. e (held ∙ z)))
 
-pub stored_long : (l k : List ℕ) (i x n : ℕ) → length l ≡ n → k ≡ set l i x → length k ≡ n
-stored_long l k i x n h e = ap length e ∙ length-set l i x ∙ h
-
-pub kept_long : (l k : List ℕ) (n : ℕ) → length l ≡ n → k ≡ l → length k ≡ n
-kept_long l k n h e = ap length e ∙ h
-
 module _ (q : ℕ) (xs : List ℕ) where
   pub due_starts : 0 ≡ due_to q xs 0
   unfolding due_to
   due_starts = refl
 
-  pub due_end : (s i n : ℕ) → s ≡ due_to q xs i → i ≤ n → n ≤ i → n ≡ length xs → s ≡ due_in q xs
-  due_end s i n e f g k = at_end_lem ℕ (due_to q xs) s i n (length xs) e f g k
-
-pub ruleset due_laws = (map_starts, map_end, over_turn, over_skip, due_turn, due_skip, due_starts, due_end, stored_long, kept_long)
+pub ruleset due_laws = (map_starts, map_end, over_turn, over_skip, due_turn, due_skip, due_starts)
 
 -- The least due time -------------------------------------------------------------------------------------------
 
@@ -165,35 +156,31 @@ module _ (cs : List ℕ) where
   least_end i n a h e f g k =
       record { some = h; is = at_end_lem Found (least (time_at cs)) (time_of (pend_of a)) i n (length cs) e f g k }
 
-pub ruleset least_laws = (least_starts, least_some, least_turn, least_end)
-
 -- of events and of threads
 pub least_both : (ps ws : List ℕ) (a c r : ℕ) (d : Found) → Least ws a → Least ps c → r ≡ min a c → d ≡ time_of (pend_of r) → d ≡ lesser (least (time_at ps) (length ps)) (least (time_at ws) (length ws))
 least_both ps ws a c r d h g e k = rw (k, e, lesser_of a c h.some g.some, h.is, g.is)
 
 -- Sums ---------------------------------------------------------------------------------------------------------
 
-time_once : (d : Due) → is_time d ≤ 1
-time_once never = omega arith
-time_once delta = omega arith
-time_once (at t) = omega arith
+abbrev times : ℕ → Bool
+times c = eqb (is_time (pend_of c)) 1
+
+time_once : (d : Due) → cond (eqb (is_time d) 1) 1 0 ≡ is_time d
+time_once never = refl
+time_once delta = refl
+time_once (at t) = refl
 
 module _ (cs : List ℕ) where
-  pub times_start : 0 ≡ sum (count_at cs) 0
+  counted : (i : ℕ) → i ≤ length cs → count_by times (take i cs) ≡ sum (count_at cs) i
   unfolding sum
-  times_start = refl
+  counted zero h = refl
+  counted (suc i) h =
+      let k : i < length cs = omega arith in
+      let s : count_by times (take (suc i) cs) ≡ count_by times (take i cs) + cond (times (get_or cs i 0)) 1 0 = rw (← add-one i) (sum_by_more (λ c. cond (times c) 1 0) cs i 0 k) in
+      s ∙ rw (counted i (omega arith), time_once (pend_of (get_or cs i 0))) (add_comm (sum (count_at cs) i) (count_at cs i))
 
-  pub times_turn : (i n r : ℕ) → n ≡ sum (count_at cs) i → r ≡ is_time (pend_of (get_or cs i 0)) → n + r ≡ sum (count_at cs) (i + 1)
-  unfolding sum
-  times_turn i n r h e = rw (add-one i, ← h, ← e) (add_comm n r)
-
-  pub times_end : (i n m : ℕ) → n ≡ sum (count_at cs) i → i ≤ m → m ≤ i → m ≡ length cs → n ≡ sum (count_at cs) (length cs)
-  times_end i n m e f g k = at_end_lem ℕ (sum (count_at cs)) n i m (length cs) e f g k
-
-pub one_time : (c r : ℕ) → r ≡ is_time (pend_of c) → r ≤ 1
-one_time c r e = rw e (time_once (pend_of c))
+  pub times_counted : (n : ℕ) → n ≡ length (filter times cs) → n ≡ sum (count_at cs) (length cs)
+  times_counted n h = h ∙ length-filter times cs ∙ ap (count_by times) (sym (take-length cs)) ∙ counted (length cs) (omega arith)
 
 pub times_both : (ps ws : List ℕ) (n m : ℕ) → n ≡ sum (count_at ps) (length ps) → m ≡ sum (count_at ws) (length ws) → n + m ≡ sum (count_at ps) (length ps) + sum (count_at ws) (length ws)
 times_both ps ws n m h g = rw (h, g)
-
-pub ruleset times_laws = (times_start, times_turn, times_end)

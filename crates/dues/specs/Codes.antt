@@ -1,10 +1,8 @@
 -- What the numbers of due times stand for, in the kernel's types. Every number stands for something; that the lists of events and threads
 -- hold none for the delta phase, which is a mark, is kept by `Shows`.
-use Rattle.std.specs.Prelude.{ℕ, zero, suc, leb, if◌then◌else◌}
+use Rattle.std.specs.Prelude.{ℕ, zero, suc, leb, Option, Some, None, if◌then◌else◌}
 use Rattle.kernel.specs.Search.{Found, none, found}
 use Rattle.kernel.specs.Kernel.{Due, never, delta, at}
-use Rattle.dues.specs.declared.Due.{Due as DueCode}
-use Rattle.dues.specs.declared.Due.TheVariants.{At as DueAt, Nothing as DueNothing}
 
 -- the number of the last time; of nothing
 abbrev pub last_time : ℕ
@@ -23,6 +21,6 @@ unfoldable pub pend_of : ℕ → Due
 pend_of c = if leb c last_time then moment_of c else never
 
 -- what the answer stands for: a time or nothing
-abbrev pub due_time : DueCode → Found
-due_time (DueAt t) = found t
-due_time DueNothing = none
+abbrev pub due_time : Option ℕ → Found
+due_time (Some t) = found t
+due_time None = none

@@ -6,43 +6,41 @@ ghost use Rattle.word.specs.Word.{narrow, add_s, sub_s, mul_s};
 ghost use Rattle.word.specs.Said.{said};
 ghost use Rattle.effect.specs.Parts.{put_of, jump_of};
 
-use word::Outcome;
+use ending::Ending;
+use word::ArithmeticError;
 
 // What a plain instruction comes to, at whatever place it stands: a cell takes a value and the body goes on at the next place; the
-// body just goes on there; it goes on elsewhere; the run stops with a number; or the instruction is not plain.
+// body just goes on there; it goes on elsewhere; the run stops; or the instruction is not plain.
 #[derive(Clone, Copy)]
 pub enum Eff {
     Put(usize, u32),
     Next,
     Go(usize),
-    Stop(u8),
+    Stop(Ending),
     Leave,
 }
 
 // Cell d takes the value of an operation, or the run stops.
-pub fn put(d: usize, r: Outcome) -> Eff
+#[tactic(auto, unfolding(word::specs::Said::said))]
+pub fn put(d: usize, r: Result<u32, ArithmeticError>) -> Eff
     ensures { result ≡ put_of d (said r) }
 {
     match r {
-        Outcome::Value(x) => Eff::Put(d, x),
-        Outcome::ZeroDivisor => Eff::Stop(14),
-        Outcome::OutOfRange => Eff::Stop(15),
+        Ok(x) => Eff::Put(d, x),
+        Err(e) => Eff::Stop(Ending::from(e)),
     }
 }
 
 // Cell d takes a signed result where the range has it. The result is tested here and not in `signed`, because an effect, unlike an
-// outcome, is too large for the compiler to carry it through the test as one number.
-#[tactic(auto, using(crate::proofs::Puts::under_range, crate::proofs::Puts::over_range, crate::proofs::Puts::in_cell, crate::proofs::Puts::cell_taken))]
+// answer of `signed`, is too large for the compiler to carry it through the test as one number.
+#[tactic(auto, using(crate::proofs::Puts::cell_taken, crate::proofs::Puts::out_of_cells))]
 fn put_signed(d: usize, s: i64) -> Eff
     ensures { result ≡ put_of d (narrow 32 s) }
 {
-    if s < -2147483648 {
-        return Eff::Stop(15);
+    match i32::try_from(s) {
+        Ok(s) => Eff::Put(d, signed::as_cell(s)),
+        Err(_) => Eff::Stop(Ending::OutOfRange),
     }
-    if 2147483647 < s {
-        return Eff::Stop(15);
-    }
-    Eff::Put(d, signed::as_cell(s as i32))
 }
 
 // An i64 holds a sum, a difference and a product of two cells.
@@ -65,7 +63,6 @@ pub fn product(d: usize, x: u32, y: u32) -> Eff
 }
 
 // Goto where the cell is not 0.
-#[tactic(auto, using(crate::proofs::Puts::jump_not, crate::proofs::Puts::jump_taken))]
 pub fn jump(x: u32, to: usize) -> Eff
     ensures { result ≡ jump_of x to }
 {

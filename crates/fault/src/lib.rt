@@ -5,7 +5,7 @@ ghost use Rattle.std.specs.Prelude.{◌≡◌};
 ghost use Rattle.frame.specs.Ops.{held_by};
 ghost use Rattle.frame.specs.Fault.{fits, instruction_fault, fault_number};
 
-use frame::{Bodies, Counts, Fault, Frame, Kind, Known, Use};
+use frame::{Bodies, Counts, Fault, Frame, Kind, Use};
 
 // May a body of this kind hold an op of these bodies?
 fn held_by(kind: Kind, bodies: Bodies) -> bool
@@ -13,25 +13,14 @@ fn held_by(kind: Kind, bodies: Bodies) -> bool
 {
     match bodies {
         Bodies::All => true,
-        Bodies::MainAndThreads => match kind {
-            Kind::Main => true,
-            Kind::Thread => true,
-            Kind::Update => false,
-        },
-        Bodies::Threads => match kind {
-            Kind::Main => false,
-            Kind::Thread => true,
-            Kind::Update => false,
-        },
-        Bodies::Main => match kind {
-            Kind::Main => true,
-            Kind::Thread => false,
-            Kind::Update => false,
-        },
+        Bodies::MainAndThreads => kind != Kind::Update,
+        Bodies::Threads => kind == Kind::Thread,
+        Bodies::Main => kind == Kind::Main,
     }
 }
 
 // Is x in range for its use, in a body of n instructions? b is the frame's field b.
+#[tactic(auto, unfolding(frame::specs::Fault::fits))]
 fn in_range(c: Counts, n: u32, b: u8, u: Use, x: u32) -> bool
     ensures { result ≡ fits c n b u x }
 {
@@ -48,34 +37,21 @@ fn in_range(c: Counts, n: u32, b: u8, u: Use, x: u32) -> bool
     }
 }
 
-// What is wrong with the instruction f in a body of this kind with n instructions.
-pub fn fault_of(c: Counts, kind: Kind, n: u32, f: Frame) -> Fault
+// What is wrong with the instruction f in a body of this kind with n instructions, if anything.
+#[tactic(auto, unfolding(frame::specs::Fault::instruction_fault))]
+pub fn fault_of(c: Counts, kind: Kind, n: u32, f: Frame) -> Result<(), Fault>
     ensures { fault_number result ≡ instruction_fault c kind n f }
 {
-    let op = f.op;
-    let Known::Op(u) = ops::uses_of(op) else {
-        return Fault::Op;
-    };
-    let bodies = u.bodies;
-    if !held_by(kind, bodies) {
-        return Fault::Op;
+    let uses = ops::uses_of(f.op).ok_or(Fault::Op)?;
+    if !held_by(kind, uses.bodies) {
+        return Err(Fault::Op);
     }
-    let b = f.b;
-    let ud = u.d;
-    let ua = u.a;
-    let ub = u.b;
-    let ui = u.imm;
-    if !in_range(c, n, b, ud, f.d as u32) {
-        return Fault::Field;
+    if !in_range(c, n, f.b, uses.d, f.d as u32)
+        || !in_range(c, n, f.b, uses.a, f.a as u32)
+        || !in_range(c, n, f.b, uses.b, f.b as u32)
+        || !in_range(c, n, f.b, uses.imm, f.imm)
+    {
+        return Err(Fault::Field);
     }
-    if !in_range(c, n, b, ua, f.a as u32) {
-        return Fault::Field;
-    }
-    if !in_range(c, n, b, ub, b as u32) {
-        return Fault::Field;
-    }
-    if !in_range(c, n, b, ui, f.imm) {
-        return Fault::Field;
-    }
-    Fault::Nothing
+    Ok(())
 }

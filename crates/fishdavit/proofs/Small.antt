@@ -7,9 +7,9 @@ use native.Mathlib.Omega.{arith}
 use borrow.Author.Tests.{eqb-true}
 use lib.Dec.{eqb, ltb}
 use lib.ListN.{length}
-use Rattle.std.specs.Prelude.{if◌then◌else◌}
+use Rattle.std.specs.Prelude.{Result, if◌then◌else◌}
 use Rattle.laws.specs.Lists.{over}
-use Rattle.image.specs.declared.Verdict.{Verdict}
+use Rattle.image.specs.declared.Refusal.{Refusal}
 use Rattle.image.specs.Limits.{most_lines}
 use Rattle.image.specs.Judge.{Said, say, said, judged}
 use Rattle.image.proofs.Accepted.{accepted_has, few_lines}
@@ -17,7 +17,7 @@ use Rattle.lines.specs.Text.{Outcome, outcome, reading, text, writing}
 use Rattle.lines.proofs.Few.{read_few}
 use Rattle.fishdavit.specs.Plain.{Small}
 
-module _ (v : Verdict) where
+module _ (v : Result ℕ Refusal) where
   pub judge_small : (fs : List ℕ) → said v ≡ judged fs → Small (said v)
   judge_small fs e = omega (arith, ap (λ (s : Said). s.line) e, few_lines fs)
 
@@ -39,9 +39,6 @@ module _ (v : Verdict) where
 
 pub ruleset small_laws = (judge_small, read_small, write_small)
 
--- the struct's two numbers, and the buffer beside them
-pub same_said : (v : Verdict) (n i : ℕ) → n ≡ (said v).number → i ≡ (said v).line → say n i ≡ said v
-same_said v n i p q = rw (p, q)
-
+-- the struct's numbers, and the buffer beside them
 pub same_outcome : (s t : Said) (l : List ℕ) (o : Outcome) → outcome t l ≡ o → s ≡ t → outcome s l ≡ o
 same_outcome s t l o e p = rw p e

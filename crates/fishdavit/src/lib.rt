@@ -13,21 +13,26 @@ use image::Verdict;
 
 // Document 01's number, and the line of the first fault or the count that was done.
 #[repr(C)]
-#[derive(Clone, Copy)]
+#[derive(Clone, Copy, Debug, PartialEq, Eq)]
 pub struct FishdavitVerdict {
     pub number: u32,
     pub line: u32,
 }
 
+// A `From` could not require that the line or count fits.
 fn told(v: Verdict) -> FishdavitVerdict
     requires { Small (said v) }
     ensures { plain result ≡ said v }
 {
-    let n = v.number();
-    let i = v.line();
-    FishdavitVerdict {
-        number: n as u32,
-        line: i as u32,
+    match v {
+        Ok(n) => FishdavitVerdict {
+            number: 0,
+            line: n as u32,
+        },
+        Err(r) => FishdavitVerdict {
+            number: r.number() as u32,
+            line: r.line() as u32,
+        },
     }
 }
 

@@ -1,6 +1,6 @@
 -- The table's two columns agree: a cell that an op's meaning reads or writes, and an event or update that it names, stands in a field that the op uses so.
-use Rattle.std.specs.Prelude.{ℕ, ◌+◌, ◌≤◌, ◌<◌, ◌≡◌, refl, Bool, true, false, ◌&&◌, List, [], ◌∷◌, eqb, if◌then◌else◌}
-use Rattle.std.proofs.Common.{arith}
+use Rattle.std.specs.Prelude.{ℕ, ◌+◌, ◌≤◌, ◌<◌, ◌≡◌, refl, Bool, true, false, ◌&&◌, List, [], ◌∷◌, Some, eqb, if◌then◌else◌}
+use Rattle.std.proofs.lemmas.Bool.{false≢true}
 use borrow.Author.Tests.{ltb-true, leb-true}
 use Rattle.laws.specs.Choice.{and_left, and_right}
 use Rattle.frame.specs.declared.Frame.{Frame}
@@ -9,7 +9,6 @@ use Rattle.frame.specs.declared.Kind.{Kind}
 use Rattle.frame.specs.declared.Use.{Use}
 use Rattle.frame.specs.declared.Use.TheVariants.{Unused, Cell, Event, Thread, Update, Number, Length, Region, Target}
 use Rattle.frame.specs.declared.Uses.{Uses}
-use Rattle.frame.specs.declared.Known.TheVariants.{Op, Unknown}
 use Rattle.frame.specs.Ops.{Meaning, takes_imm, takes_input, one, two, may, load, store, goto, goto_if, holds, wait_event, wait_time, notify, notify_after, request, suspend, resume, start_limit, start, unknown, Row, ops, look, look_meaning, uses_of, meaning_of}
 use Rattle.frame.specs.Fault.{fits}
 use Rattle.frame.specs.Laws.{Sound}
@@ -110,28 +109,18 @@ all_agree (r ∷ rs) = agree (named r.meaning) r.uses && all_agree rs
 every : all_agree ops ≡ true
 every = refl
 
-unlike : {A : Type 0} {u : Uses} → Unknown ≡ Op u → A
-unlike e =
-    let z : ◌≡◌ {A = ℕ} 0 1 = cc in
-    absurd (omega arith)
-
-false_true : false ≡ true → ⊥
-false_true e =
-    let z : ◌≡◌ {A = ℕ} 0 1 = cc in
-    omega arith
-
-agreed_in : (rs : List Row) (n : ℕ) (u : Uses) → all_agree rs ≡ true → look rs n ≡ Op u → agree (named (look_meaning rs n)) u ≡ true
-agreed_in [] n u t e = unlike e
+agreed_in : (rs : List Row) (n : ℕ) (u : Uses) → all_agree rs ≡ true → look rs n ≡ Some u → agree (named (look_meaning rs n)) u ≡ true
+agreed_in [] n u t e = cc
 agreed_in (r ∷ rs) n u t e =
     go (eqb n r.number) e (agreed_in rs n u (and_right (agree (named r.meaning) r.uses) (all_agree rs) t))
   where
-    go : (b : Bool) → (if b then Op r.uses else look rs n) ≡ Op u → (look rs n ≡ Op u → agree (named (look_meaning rs n)) u ≡ true) → agree (named (if b then r.meaning else look_meaning rs n)) u ≡ true
+    go : (b : Bool) → (if b then Some r.uses else look rs n) ≡ Some u → (look rs n ≡ Some u → agree (named (look_meaning rs n)) u ≡ true) → agree (named (if b then r.meaning else look_meaning rs n)) u ≡ true
     go true q f =
         let w : r.uses ≡ u = cc in
         rw (← w) (and_left (agree (named r.meaning) r.uses) (all_agree rs) t)
     go false q f = f q
 
-agreed : (n : ℕ) (u : Uses) → uses_of n ≡ Op u → agree (named (meaning_of n)) u ≡ true
+agreed : (n : ℕ) (u : Uses) → uses_of n ≡ Some u → agree (named (meaning_of n)) u ≡ true
 unfolding uses_of meaning_of
 agreed n u e = agreed_in ops n u every e
 
@@ -148,54 +137,54 @@ module _ (c : Counts) (n b x : ℕ) where
   by_cell : (u : Use) → is_cell u ≡ true → fits c n b u x ≡ true → x < c.cells
   unfolding fits
   by_cell Cell e f = ltb-true x c.cells f
-  by_cell Unused e f = absurd (false_true e)
-  by_cell Event e f = absurd (false_true e)
-  by_cell Thread e f = absurd (false_true e)
-  by_cell Update e f = absurd (false_true e)
-  by_cell Number e f = absurd (false_true e)
-  by_cell Length e f = absurd (false_true e)
-  by_cell Region e f = absurd (false_true e)
-  by_cell Target e f = absurd (false_true e)
+  by_cell Unused e f = absurd (false≢true e)
+  by_cell Event e f = absurd (false≢true e)
+  by_cell Thread e f = absurd (false≢true e)
+  by_cell Update e f = absurd (false≢true e)
+  by_cell Number e f = absurd (false≢true e)
+  by_cell Length e f = absurd (false≢true e)
+  by_cell Region e f = absurd (false≢true e)
+  by_cell Target e f = absurd (false≢true e)
 
   by_region : (u : Use) → is_region u ≡ true → fits c n b u x ≡ true → x + b ≤ c.cells
   unfolding fits
   by_region Region e f = leb-true (x + b) c.cells f
-  by_region Cell e f = absurd (false_true e)
-  by_region Unused e f = absurd (false_true e)
-  by_region Event e f = absurd (false_true e)
-  by_region Thread e f = absurd (false_true e)
-  by_region Update e f = absurd (false_true e)
-  by_region Number e f = absurd (false_true e)
-  by_region Length e f = absurd (false_true e)
-  by_region Target e f = absurd (false_true e)
+  by_region Cell e f = absurd (false≢true e)
+  by_region Unused e f = absurd (false≢true e)
+  by_region Event e f = absurd (false≢true e)
+  by_region Thread e f = absurd (false≢true e)
+  by_region Update e f = absurd (false≢true e)
+  by_region Number e f = absurd (false≢true e)
+  by_region Length e f = absurd (false≢true e)
+  by_region Target e f = absurd (false≢true e)
 
   by_event : (u : Use) → is_event u ≡ true → fits c n b u x ≡ true → x < c.events
   unfolding fits
   by_event Event e f = ltb-true x c.events f
-  by_event Cell e f = absurd (false_true e)
-  by_event Unused e f = absurd (false_true e)
-  by_event Thread e f = absurd (false_true e)
-  by_event Update e f = absurd (false_true e)
-  by_event Number e f = absurd (false_true e)
-  by_event Length e f = absurd (false_true e)
-  by_event Region e f = absurd (false_true e)
-  by_event Target e f = absurd (false_true e)
+  by_event Cell e f = absurd (false≢true e)
+  by_event Unused e f = absurd (false≢true e)
+  by_event Thread e f = absurd (false≢true e)
+  by_event Update e f = absurd (false≢true e)
+  by_event Number e f = absurd (false≢true e)
+  by_event Length e f = absurd (false≢true e)
+  by_event Region e f = absurd (false≢true e)
+  by_event Target e f = absurd (false≢true e)
 
   by_update : (u : Use) → is_update u ≡ true → fits c n b u x ≡ true → x < c.updates
   unfolding fits
   by_update Update e f = ltb-true x c.updates f
-  by_update Cell e f = absurd (false_true e)
-  by_update Unused e f = absurd (false_true e)
-  by_update Event e f = absurd (false_true e)
-  by_update Thread e f = absurd (false_true e)
-  by_update Number e f = absurd (false_true e)
-  by_update Length e f = absurd (false_true e)
-  by_update Region e f = absurd (false_true e)
-  by_update Target e f = absurd (false_true e)
+  by_update Cell e f = absurd (false≢true e)
+  by_update Unused e f = absurd (false≢true e)
+  by_update Event e f = absurd (false≢true e)
+  by_update Thread e f = absurd (false≢true e)
+  by_update Number e f = absurd (false≢true e)
+  by_update Length e f = absurd (false≢true e)
+  by_update Region e f = absurd (false≢true e)
+  by_update Target e f = absurd (false≢true e)
 
 follows : (a b : Bool) → implies a b ≡ true → a ≡ true → b ≡ true
 follows true b e h = e
-follows false b e h = absurd (false_true h)
+follows false b e h = absurd (false≢true h)
 
 -- the parts of a conjunction of six tests; of four, with two that hold before them
 pub record Six (a b c d e f : Bool) : Type 0 where
@@ -208,12 +197,12 @@ pub record Six (a b c d e f : Bool) : Type 0 where
 
 six : (a b c d e f : Bool) → a && b && c && d && e && f ≡ true → Six a b c d e f
 six true true true true true true h = record { p = refl; q = refl; r = refl; s = refl; t = refl; u = refl }
-six true true true true true false h = absurd (false_true h)
-six true true true true false f h = absurd (false_true h)
-six true true true false e f h = absurd (false_true h)
-six true true false d e f h = absurd (false_true h)
-six true false c d e f h = absurd (false_true h)
-six false b c d e f h = absurd (false_true h)
+six true true true true true false h = absurd (false≢true h)
+six true true true true false f h = absurd (false≢true h)
+six true true true false e f h = absurd (false≢true h)
+six true true false d e f h = absurd (false≢true h)
+six true false c d e f h = absurd (false≢true h)
+six false b c d e f h = absurd (false≢true h)
 
 pub in_cells : (c : Counts) (kind : Kind) (n : ℕ) (f : Frame) → Sound c kind n f → InCells c f (meaning_of f.op)
 in_cells c kind n f s =

@@ -1,15 +1,13 @@
 -- What is wrong with an instruction.
-use Rattle.std.specs.Prelude.{ℕ, ◌+◌, Bool, true, ◌&&◌, eqb, ltb, leb, if◌then◌else◌}
+use Rattle.std.specs.Prelude.{ℕ, ◌+◌, Bool, true, ◌&&◌, Option, Some, None, Result, Ok, Err, ⊤, eqb, ltb, leb, if◌then◌else◌}
 use Rattle.frame.specs.declared.Frame.{Frame}
 use Rattle.frame.specs.declared.Counts.{Counts}
 use Rattle.frame.specs.declared.Kind.{Kind}
 use Rattle.frame.specs.declared.Use.{Use}
 use Rattle.frame.specs.declared.Use.TheVariants.{Unused, Cell, Event, Thread, Update, Number, Length, Region, Target}
 use Rattle.frame.specs.declared.Uses.{Uses}
-use Rattle.frame.specs.declared.Known.{Known}
-use Rattle.frame.specs.declared.Known.TheVariants.{Op, Unknown}
 use Rattle.frame.specs.declared.Fault.{Fault}
-use Rattle.frame.specs.declared.Fault.TheVariants.{Nothing, Op as BadOp, Field as BadField}
+use Rattle.frame.specs.declared.Fault.TheVariants.{Op, Field}
 use Rattle.frame.specs.Ops.{uses_of, held_by}
 
 -- a field x in range for its use, in a body of n instructions; b is the frame's field b:
@@ -31,16 +29,16 @@ all_fit c n u f =
     && fits c n f.b u.b f.b && fits c n f.b u.imm f.imm
 
 -- "4 op: op unknown, or not allowed in that body"; "5 field: unused field not zero, or used field out of range"; 0 for none
-abbrev pub fault_as : Known → Counts → Kind → (n : ℕ) → Frame → ℕ
-fault_as Unknown c kind n f = 4
-fault_as (Op u) c kind n f = if held_by kind u.bodies then (if all_fit c n u f then 0 else 5) else 4
+abbrev pub fault_as : Option Uses → Counts → Kind → (n : ℕ) → Frame → ℕ
+fault_as None c kind n f = 4
+fault_as (Some u) c kind n f = if held_by kind u.bodies then (if all_fit c n u f then 0 else 5) else 4
 
 -- the number of the fault of an instruction in a body of this kind with n instructions
 unfoldable pub instruction_fault : Counts → Kind → (n : ℕ) → Frame → ℕ
 instruction_fault c kind n f = fault_as (uses_of f.op) c kind n f
 
 -- the paper's number of each answer
-abbrev pub fault_number : Fault → ℕ
-fault_number Nothing = 0
-fault_number BadOp = 4
-fault_number BadField = 5
+abbrev pub fault_number : Result ⊤ Fault → ℕ
+fault_number (Ok _) = 0
+fault_number (Err Op) = 4
+fault_number (Err Field) = 5

@@ -1,5 +1,5 @@
--- The fault of an instruction, each law as an arm of the code has it, and what an instruction without a fault has.
-use Rattle.std.specs.Prelude.{ℕ, ◌≤◌, ◌≡◌, Bool, true, false, not, eqb, if◌then◌else◌}
+-- The fault of an instruction test by test, what an instruction without a fault has, how large a fault's number is, and that no second answer fits.
+use Rattle.std.specs.Prelude.{ℕ, ◌≤◌, ◌≡◌, Bool, true, false, not, Option, Some, None, Result, Ok, Err, ⊤, eqb, if◌then◌else◌}
 use Rattle.std.proofs.Math.Path.{refl}
 use Rattle.std.proofs.Common.{arith}
 use borrow.Author.Tests.{not-true, not-false}
@@ -8,23 +8,21 @@ use Rattle.frame.specs.declared.Frame.{Frame}
 use Rattle.frame.specs.declared.Counts.{Counts}
 use Rattle.frame.specs.declared.Kind.{Kind}
 use Rattle.frame.specs.declared.Uses.{Uses}
-use Rattle.frame.specs.declared.Known.{Known}
-use Rattle.frame.specs.declared.Known.TheVariants.{Op, Unknown}
 use Rattle.frame.specs.declared.Fault.{Fault}
-use Rattle.frame.specs.declared.Fault.TheVariants.{Nothing, Op as BadOp, Field as BadField}
+use Rattle.frame.specs.declared.Fault.TheVariants.{Op, Field}
 use Rattle.frame.specs.Ops.{uses_of, held_by}
 use Rattle.frame.specs.Fault.{fits, all_fit, fault_as, instruction_fault, fault_number}
 
-module _ (c : Counts) (kind : Kind) (n : ℕ) (f : Frame) (k : Known) where
-  pub fault_unknown : k ≡ uses_of f.op → k ≡ Unknown → 4 ≡ instruction_fault c kind n f
+module _ (c : Counts) (kind : Kind) (n : ℕ) (f : Frame) (k : Option Uses) where
+  pub fault_unknown : k ≡ uses_of f.op → k ≡ None → 4 ≡ instruction_fault c kind n f
   unfolding instruction_fault
   fault_unknown h e = rw (← h, e)
 
-  pub fault_not_held : (u : Uses) (m : Bool) → k ≡ uses_of f.op → k ≡ Op u → m ≡ held_by kind u.bodies → not m ≡ true → 4 ≡ instruction_fault c kind n f
+  pub fault_not_held : (u : Uses) (m : Bool) → k ≡ uses_of f.op → k ≡ Some u → m ≡ held_by kind u.bodies → not m ≡ true → 4 ≡ instruction_fault c kind n f
   unfolding instruction_fault
   fault_not_held u m h e g t = rw (← h, e, ← g, not-true m t)
 
-  module _ (u : Uses) (m d : Bool) (h : k ≡ uses_of f.op) (e : k ≡ Op u) (g : m ≡ held_by kind u.bodies) (t : not m ≡ false) (gd : d ≡ fits c n f.b u.d f.d) where
+  module _ (u : Uses) (m d : Bool) (h : k ≡ uses_of f.op) (e : k ≡ Some u) (g : m ≡ held_by kind u.bodies) (t : not m ≡ false) (gd : d ≡ fits c n f.b u.d f.d) where
     pub fault_d : not d ≡ true → 5 ≡ instruction_fault c kind n f
     unfolding instruction_fault
     fault_d td = rw (← h, e, ← g, not-false m t, ← gd, not-true d td)
@@ -48,24 +46,22 @@ module _ (c : Counts) (kind : Kind) (n : ℕ) (f : Frame) (k : Known) where
           unfolding instruction_fault
           fault_none ti = rw (← h, e, ← g, not-false m t, ← gd, not-false d td, ← ga, not-false a ta, ← gb, not-false b tb, ← gi, not-false i ti)
 
-pub ruleset fault_laws = (fault_unknown, fault_not_held, fault_d, fault_a, fault_b, fault_imm, fault_none)
-
 -- what an instruction without a fault has: a known op, allowed in its body, and every field in range for its use
 pub record Sound (c : Counts) (kind : Kind) (n : ℕ) (f : Frame) : Type 0 where
   pub uses : Uses
-  pub known : uses_of f.op ≡ Op uses
+  pub known : uses_of f.op ≡ Some uses
   pub held : held_by kind uses.bodies ≡ true
   pub fit : all_fit c n uses f ≡ true
 
 module _ (c : Counts) (kind : Kind) (n : ℕ) (f : Frame) where
-  by_tests : (u : Uses) (m a : Bool) → uses_of f.op ≡ Op u → held_by kind u.bodies ≡ m → all_fit c n u f ≡ a → ◌≡◌ {A = ℕ} (if m then (if a then 0 else 5) else 4) 0 → Sound c kind n f
+  by_tests : (u : Uses) (m a : Bool) → uses_of f.op ≡ Some u → held_by kind u.bodies ≡ m → all_fit c n u f ≡ a → ◌≡◌ {A = ℕ} (if m then (if a then 0 else 5) else 4) 0 → Sound c kind n f
   by_tests u true true k h g e = record { uses = u; known = k; held = h; fit = g }
   by_tests u true false k h g e = absurd (omega arith)
   by_tests u false a k h g e = absurd (omega arith)
 
-  by_known : (k : Known) → uses_of f.op ≡ k → fault_as k c kind n f ≡ 0 → Sound c kind n f
-  by_known Unknown h e = absurd (omega arith)
-  by_known (Op u) h e = by_tests u (held_by kind u.bodies) (all_fit c n u f) h refl refl e
+  by_known : (k : Option Uses) → uses_of f.op ≡ k → fault_as k c kind n f ≡ 0 → Sound c kind n f
+  by_known None h e = absurd (omega arith)
+  by_known (Some u) h e = by_tests u (held_by kind u.bodies) (all_fit c n u f) h refl refl e
 
   pub sound : instruction_fault c kind n f ≡ 0 → Sound c kind n f
   unfolding instruction_fault
@@ -77,22 +73,22 @@ module _ (c : Counts) (kind : Kind) (n : ℕ) (f : Frame) where
   small true false = omega arith
   small false a = omega arith
 
-  small_as : (k : Known) → fault_as k c kind n f ≤ 5
-  small_as Unknown = omega arith
-  small_as (Op u) = small (held_by kind u.bodies) (all_fit c n u f)
+  small_as : (k : Option Uses) → fault_as k c kind n f ≤ 5
+  small_as None = omega arith
+  small_as (Some u) = small (held_by kind u.bodies) (all_fit c n u f)
 
   pub fault_small : instruction_fault c kind n f ≤ 5
   unfolding instruction_fault
   fault_small = small_as (uses_of f.op)
 
 -- No second answer fits `fault_of`'s contract: the number gives the answer back.
-abbrev fault_of_number : ℕ → Fault
-fault_of_number n = if eqb n 0 then Nothing else (if eqb n 4 then BadOp else BadField)
+abbrev fault_of_number : ℕ → Result ⊤ Fault
+fault_of_number n = if eqb n 0 then Ok tt else (if eqb n 4 then Err Op else Err Field)
 
-number_back : (f : Fault) → fault_of_number (fault_number f) ≡ f
-number_back Nothing = refl
-number_back BadOp = refl
-number_back BadField = refl
+number_back : (r : Result ⊤ Fault) → fault_of_number (fault_number r) ≡ r
+number_back (Ok tt) = refl
+number_back (Err Op) = refl
+number_back (Err Field) = refl
 
-pub one_fault : (n : ℕ) (a b : Fault) → fault_number a ≡ n → fault_number b ≡ n → a ≡ b
+pub one_fault : (n : ℕ) (a b : Result ⊤ Fault) → fault_number a ≡ n → fault_number b ≡ n → a ≡ b
 one_fault = one_answer fault_number fault_of_number number_back

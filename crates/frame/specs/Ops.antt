@@ -1,13 +1,11 @@
 -- The one table of the op numbers: what each op means, what it uses its fields for, and the bodies that may hold it.
-use Rattle.std.specs.Prelude.{ℕ, Bool, true, false, List, [], ◌∷◌, eqb, if◌then◌else◌}
+use Rattle.std.specs.Prelude.{ℕ, Bool, true, false, List, [], ◌∷◌, Option, Some, None, eqb, if◌then◌else◌}
 use Rattle.word.specs.Word.{Result, add_u, sub_u, mul_u, quot_u, rem_u, add_s, sub_s, mul_s, quot_s, rem_s, and_b, or_b, not_b, equal, differ, lt_u, le_u, lt_s, le_s, is_zero}
 use Rattle.frame.specs.declared.Use.{Use}
 use Rattle.frame.specs.declared.Use.TheVariants.{Unused, Cell, Event, Thread, Update, Number, Length, Region, Target}
 use Rattle.frame.specs.declared.Bodies.{Bodies}
 use Rattle.frame.specs.declared.Bodies.TheVariants.{All, MainAndThreads, Threads, Main}
 use Rattle.frame.specs.declared.Uses.{Uses}
-use Rattle.frame.specs.declared.Known.{Known}
-use Rattle.frame.specs.declared.Known.TheVariants.{Op, Unknown}
 use Rattle.frame.specs.declared.Kind.{Kind}
 use Rattle.frame.specs.declared.Kind.TheVariants.{Main as InMain, Thread as InThread, Update as InUpdate}
 
@@ -87,11 +85,11 @@ ops =
     ∷ op 0x68 start Unused Unused Unused Unused Main
     ∷ []
 
-abbrev pub look : List Row → ℕ → Known
-look [] n = Unknown
-look (r ∷ rs) n = if eqb n r.number then Op r.uses else look rs n
+abbrev pub look : List Row → ℕ → Option Uses
+look [] n = None
+look (r ∷ rs) n = if eqb n r.number then Some r.uses else look rs n
 
-unfoldable pub uses_of : ℕ → Known
+unfoldable pub uses_of : ℕ → Option Uses
 uses_of n = look ops n
 
 abbrev pub look_meaning : List Row → ℕ → Meaning

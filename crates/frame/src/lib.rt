@@ -3,10 +3,9 @@
 #![tactic(auto)]
 
 ghost use Rattle.std.specs.Prelude.{◌≡◌};
-ghost use Rattle.frame.specs.Fields.{fields};
 
 // A frame's fields.
-#[derive(Clone, Copy)]
+#[derive(Clone, Copy, Debug, PartialEq, Eq)]
 pub struct Frame {
     pub op: u8,
     pub d: u8,
@@ -16,7 +15,7 @@ pub struct Frame {
 }
 
 // The counts that a header gives.
-#[derive(Clone, Copy)]
+#[derive(Clone, Copy, Debug, PartialEq, Eq)]
 pub struct Counts {
     pub threads: u8,
     pub events: u8,
@@ -25,7 +24,7 @@ pub struct Counts {
 }
 
 // The kinds of body.
-#[derive(Clone, Copy)]
+#[derive(Clone, Copy, Debug, PartialEq, Eq)]
 pub enum Kind {
     Main,
     Thread,
@@ -33,7 +32,7 @@ pub enum Kind {
 }
 
 // What a field is used for.
-#[derive(Clone, Copy)]
+#[derive(Clone, Copy, Debug, PartialEq, Eq)]
 pub enum Use {
     Unused,
     Cell,
@@ -47,7 +46,7 @@ pub enum Use {
 }
 
 // The bodies that may hold an op.
-#[derive(Clone, Copy)]
+#[derive(Clone, Copy, Debug, PartialEq, Eq)]
 pub enum Bodies {
     All,
     MainAndThreads,
@@ -56,7 +55,7 @@ pub enum Bodies {
 }
 
 // What an op uses each field for, and where it may stand.
-#[derive(Clone, Copy)]
+#[derive(Clone, Copy, Debug, PartialEq, Eq)]
 pub struct Uses {
     pub d: Use,
     pub a: Use,
@@ -65,28 +64,25 @@ pub struct Uses {
     pub bodies: Bodies,
 }
 
-#[derive(Clone, Copy)]
-pub enum Known {
-    Op(Uses),
-    Unknown,
-}
-
 // What is wrong with an instruction.
-#[derive(Clone, Copy)]
+#[derive(Clone, Copy, Debug, PartialEq, Eq)]
 pub enum Fault {
-    Nothing,
     Op,
     Field,
 }
 
-pub fn decode(f: u64) -> Frame
-    ensures { result ≡ fields f }
-{
-    Frame {
-        op: (f / 0x100_0000_0000_0000) as u8,
-        d: (f / 0x1_0000_0000_0000 % 256) as u8,
-        a: (f / 0x100_0000_0000 % 256) as u8,
-        b: (f / 0x1_0000_0000 % 256) as u8,
-        imm: (f % 0x1_0000_0000) as u32,
+impl From<u64> for Frame {
+    ghost use Rattle.frame.specs.Fields.{fields};
+
+    ghost from_gives = { λ f r. r ≡ fields f };
+
+    fn from(f: u64) -> Self {
+        Frame {
+            op: (f / 0x100_0000_0000_0000) as u8,
+            d: (f / 0x1_0000_0000_0000 % 256) as u8,
+            a: (f / 0x100_0000_0000 % 256) as u8,
+            b: (f / 0x1_0000_0000 % 256) as u8,
+            imm: (f % 0x1_0000_0000) as u32,
+        }
     }
 }

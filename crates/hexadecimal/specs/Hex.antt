@@ -1,9 +1,7 @@
 -- "All digits are lower-case hexadecimal, printed ones too."
-use Rattle.std.specs.Prelude.{ℕ, zero, suc, ◌+◌, ◌-◌, ◌*◌, ◌/◌, ◌%◌, Bool, true, ◌&&◌, List, [], ◌∷◌, ◌++◌, ltb, leb, length, get_or, if◌then◌else◌}
+use Rattle.std.specs.Prelude.{ℕ, zero, suc, ◌+◌, ◌-◌, ◌*◌, ◌/◌, ◌%◌, Bool, true, ◌&&◌, List, [], ◌∷◌, ◌++◌, ltb, leb, length, get_or, Option, None, Some, if◌then◌else◌}
 use Rattle.std.proofs.lemmas.List.Edits.{sets}
 use Rattle.laws.specs.Choice.{between}
-use Rattle.hexadecimal.specs.declared.Number.{Number}
-use Rattle.hexadecimal.specs.declared.Number.TheVariants.{Is, Malformed}
 
 -- "digits 0-9a-f": what a byte stands for; 16 where it is no digit
 unfoldable pub digit_value : ℕ → ℕ
@@ -20,9 +18,9 @@ value bs at zero = 0
 value bs at (suc n) = value bs at n * 16 + digit_value (get_or bs (at + n) 0)
 
 -- what n bytes from `at` on give: a number where they are there, at most sixteen, and all digits
-unfoldable pub number_at : List ℕ → (at n : ℕ) → Number
+unfoldable pub number_at : List ℕ → (at n : ℕ) → Option ℕ
 number_at bs at n =
-    if leb n 16 && leb (at + n) (length bs) && digits bs at n then Is (value bs at n) else Malformed
+    if leb n 16 && leb (at + n) (length bs) && digits bs at n then Some (value bs at n) else None
 
 -- the digit of a value below 16
 unfoldable pub digit_of : ℕ → ℕ

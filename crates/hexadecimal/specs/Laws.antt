@@ -1,6 +1,6 @@
 -- Laws of digits, as the code's arms have them, and that reading and writing digits undo each other.
 use Prim.Native.Nat.{ℕ, zero, suc, ◌+◌, ◌-◌, ◌*◌, ◌/◌, ◌%◌, ◌^◌, ◌≤◌, ◌<◌}
-use Rattle.std.specs.Prelude.{◌≡◌, Bool, ◌&&◌, ltb, leb, set, take, drop, if◌then◌else◌}
+use Rattle.std.specs.Prelude.{◌≡◌, Bool, ◌&&◌, ltb, leb, set, take, drop, slice_range, Option, None, Some, if◌then◌else◌}
 use Rattle.std.proofs.Math.Path.{refl, ap}
 use Rattle.std.proofs.Common.{sym, ◌∙◌, add-one, length-append}
 use Rattle.std.proofs.Math.Bool.{true, false}
@@ -11,10 +11,10 @@ use Rattle.std.proofs.Math.Nat.{pow-suc, pow-le-pow_right}
 use borrow.Author.Tests.{ltb-true, ltb-false, leb-true, leb-false, lt-ltb, le-ltb, lt-leb, le-leb}
 use Rattle.std.proofs.Math.ListN.{length, get_or, length-drop, get_or-append}
 use Rattle.std.proofs.lemmas.List.Edits.{sets}
-use Rattle.std.proofs.Math.Seq.{get_or_at, get_or-drop, take-suc}
+use Rattle.std.proofs.Math.Seq.{get_or_at, get_or-drop, take-suc, length-take-le}
+use Rattle.std.proofs.lemmas.List.{get_or-take}
 use Rattle.laws.specs.Choice.{and_left, and_right}
 use Rattle.laws.specs.Lists.{sets_snoc}
-use Rattle.hexadecimal.specs.declared.Number.TheVariants.{Is, Malformed}
 use Rattle.hexadecimal.specs.Hex.{digit_value, digits, value, number_at, digit_of, hex, written}
 use Rattle.hexadecimal.specs.Steps.{Read}
 
@@ -40,8 +40,6 @@ module _ (b : ℕ) where
   unfolding digit_value
   digit_high h = rw (le-leb 0x30 b (omega arith), lt-leb b 0x39 (omega arith), le-leb 0x61 b (omega arith), lt-leb b 0x66 h)
 
-pub ruleset digit_laws = (digit_low, digit_ten, digit_gap, digit_six, digit_high)
-
 pub spell_ten : (v : ℕ) → v < 10 → 0x30 + v ≡ digit_of v
 unfolding digit_of
 spell_ten v h = rw (lt-ltb v 10 h)
@@ -49,8 +47,6 @@ spell_ten v h = rw (lt-ltb v 10 h)
 pub spell_six : (v : ℕ) → 10 ≤ v → 0x57 + v ≡ digit_of v
 unfolding digit_of
 spell_six v h = rw (le-ltb v 10 h)
-
-pub ruleset spell_laws = (spell_ten, spell_six)
 
 -- the reading loop
 module _ (bs : List ℕ) (at : ℕ) where
@@ -89,38 +85,36 @@ module _ (bs : List ℕ) (at : ℕ) where
   bad_digit j (suc n) h e = not_digits j n e (λ l. bad_digit j n l e) h (ℕ_discrete j n)
 
   -- the arms that answer
-  pub number_long : (n : ℕ) → 16 < n → Malformed ≡ number_at bs at n
+  pub number_long : (n : ℕ) → 16 < n → None ≡ number_at bs at n
   unfolding number_at
   number_long n h = rw (lt-leb n 16 h)
 
-  pub number_cut : (n : ℕ) → length bs < at + n → Malformed ≡ number_at bs at n
+  pub number_cut : (n : ℕ) → length bs < at + n → None ≡ number_at bs at n
   unfolding number_at
   number_cut n h = rw (lt-leb (at + n) (length bs) h) (either (leb n 16))
     where
-      either : (t : Bool) → Malformed ≡ (if t && false && digits bs at n then Is (value bs at n) else Malformed)
+      either : (t : Bool) → None ≡ (if t && false && digits bs at n then Some (value bs at n) else None)
       either true = refl
       either false = refl
 
-  pub number_past : (n : ℕ) → length bs < at → Malformed ≡ number_at bs at n
+  pub number_past : (n : ℕ) → length bs < at → None ≡ number_at bs at n
   number_past n h = number_cut n (omega arith)
 
-  pub number_short : (n : ℕ) → at ≤ length bs → length bs - at < n → Malformed ≡ number_at bs at n
+  pub number_short : (n : ℕ) → at ≤ length bs → length bs - at < n → None ≡ number_at bs at n
   number_short n h g = number_cut n (omega arith)
 
   module _ (n : ℕ) (h : n ≤ 16) (g : at + n ≤ length bs) where
-    pub number_bad : (j v : ℕ) → j < n → v ≡ digit_value (get_or bs (at + j) 0) → 16 ≤ v → Malformed ≡ number_at bs at n
+    pub number_bad : (j v : ℕ) → j < n → v ≡ digit_value (get_or bs (at + j) 0) → 16 ≤ v → None ≡ number_at bs at n
     unfolding number_at
     number_bad j v l e m = rw (le-leb n 16 h, le-leb (at + n) (length bs) g, bad_digit j n l (rw (← e) (le-ltb v 16 m)))
 
-    pub number_good : (j x : ℕ) → Read bs at j x → n ≤ j → j ≤ n → Is x ≡ number_at bs at n
+    pub number_good : (j x : ℕ) → Read bs at j x → n ≤ j → j ≤ n → Some x ≡ number_at bs at n
     unfolding number_at
     number_good j x r a b =
         let m : j ≡ n = omega arith in
         let d : digits bs at n ≡ true = rw m at r.good in
         let q : x ≡ value bs at n = rw m at r.number in
         rw (le-leb n 16 h, le-leb (at + n) (length bs) g, d, q)
-
-pub ruleset number_laws = (number_long, number_past, number_short, number_bad, number_good)
 
 module _ (bs : List ℕ) (at n j x : ℕ) (r : Read bs at j x) (l : j < n) (s : n ≤ 16) where
   pub read_mul : x * 16 < 2 ^ 64
@@ -129,29 +123,79 @@ module _ (bs : List ℕ) (at n j x : ℕ) (r : Read bs at j x) (l : j < n) (s : 
   pub read_add : (v : ℕ) → v < 16 → x * 16 + v < 2 ^ 64
   read_add v h = read_fits bs at j x v r (omega arith) h
 
+-- the same at the start of the digits
+module _ (bs : List ℕ) (n : ℕ) (q : length bs ≡ n) (h : n ≤ 16) where
+  pub next_digit : (j x v : ℕ) → Read bs 0 j x → v ≡ digit_value (get_or bs j 0) → v < 16 → Read bs 0 (j + 1) (x * 16 + v)
+  next_digit j x v r e l =
+      let z : 0 + j ≡ j = omega arith in
+      read_turn bs 0 j x v r (rw z e) l
+
+  pub no_digit : (j : ℕ) → j < n → digit_value (get_or bs j 0) ≡ 16 → None ≡ number_at bs 0 n
+  no_digit j l e =
+      let z : 0 + j ≡ j = omega arith in
+      number_bad bs 0 n h (omega arith) j 16 l (rw z (sym e)) (omega arith)
+
+  pub all_digits : (j x : ℕ) → Read bs 0 j x → n ≤ j → j ≤ n → Some x ≡ number_at bs 0 n
+  all_digits = number_good bs 0 n h (omega arith)
+
+-- the number at a place is that of the digits there
+module _ (bs : List ℕ) (at n : ℕ) where
+  abbrev part : List ℕ
+  part = take n (drop at bs)
+
+  part_digit : (j : ℕ) → j < n → get_or part (0 + j) 0 ≡ get_or bs (at + j) 0
+  part_digit j h =
+      let z : 0 + j ≡ j = omega arith in
+      rw (z, get_or-take n (drop at bs) j 0 h) (get_or-drop at bs j 0)
+
+  part_digits : (j : ℕ) → j ≤ n → digits part 0 j ≡ digits bs at j
+  unfolding digits
+  part_digits zero h = refl
+  part_digits (suc j) h = rw (part_digits j (omega arith), part_digit j (omega arith))
+
+  part_value : (j : ℕ) → j ≤ n → value part 0 j ≡ value bs at j
+  unfolding value
+  part_value zero h = refl
+  part_value (suc j) h = rw (part_value j (omega arith), part_digit j (omega arith))
+
+  part_length : at + n ≤ length bs → length part ≡ n
+  part_length g = length-take-le n (drop at bs) (omega (arith, length-drop at bs))
+
+  number_part : at + n ≤ length bs → number_at part 0 (length part) ≡ number_at bs at n
+  unfolding number_at
+  number_part g =
+      let l : length part ≡ n = part_length g in
+      rw (l, part_digits n (omega arith), part_value n (omega arith), le-leb (at + n) (length bs) g, le-leb (0 + n) n (omega arith))
+
+  pub number_there : (end : ℕ) (ds : List ℕ) (r : Option ℕ) → r ≡ number_at ds 0 (length ds) → ds ≡ slice_range bs at end → end ≡ at + n → end ≤ length bs → r ≡ number_at bs at n
+  number_there end ds r q d e h =
+      let m : end - at ≡ n = omega arith in
+      let p : ds ≡ part = rw m at d in
+      q ∙ rw p (number_part (omega arith))
+
 -- what a number that was read tells
 pub record Reads (bs : List ℕ) (at n x : ℕ) : Type 0 where
   pub there : at + n ≤ length bs
   pub good : digits bs at n ≡ true
   pub number : value bs at n ≡ x
 
-unlike : {A : Type 0} {x : ℕ} → Malformed ≡ Is x → A
+unlike : {A : Type 0} {x : ℕ} → None ≡ Some x → A
 unlike e =
     let z : ◌≡◌ {A = ℕ} 0 1 = cc in
     absurd (omega arith)
 
 module _ (bs : List ℕ) (at n x : ℕ) where
-  by_tests : (a b d : Bool) → leb (at + n) (length bs) ≡ b → digits bs at n ≡ d → (if a && b && d then Is (value bs at n) else Malformed) ≡ Is x → Reads bs at n x
+  by_tests : (a b d : Bool) → leb (at + n) (length bs) ≡ b → digits bs at n ≡ d → (if a && b && d then Some (value bs at n) else None) ≡ Some x → Reads bs at n x
   by_tests true true true q r e = record { there = leb-true (at + n) (length bs) q; good = r; number = cc }
   by_tests true true false q r e = unlike e
   by_tests true false d q r e = unlike e
   by_tests false b d q r e = unlike e
 
-  pub number_reads : number_at bs at n ≡ Is x → Reads bs at n x
+  pub number_reads : number_at bs at n ≡ Some x → Reads bs at n x
   unfolding number_at
   number_reads e = by_tests (leb n 16) (leb (at + n) (length bs)) (digits bs at n) refl refl e
 
-  pub reads_number : n ≤ 16 → Reads bs at n x → number_at bs at n ≡ Is x
+  pub reads_number : n ≤ 16 → Reads bs at n x → number_at bs at n ≡ Some x
   unfolding number_at
   reads_number h r = rw (le-leb n 16 h, le-leb (at + n) (length bs) r.there, r.good, r.number)
 
@@ -172,21 +216,6 @@ pub hex_end : (l ys : List ℕ) (at j x : ℕ) → j ≤ 0 → sets l at (hex j 
 unfolding hex
 hex_end l ys at zero x h e = e
 hex_end l ys at (suc j) x h e = absurd (omega arith)
-
-module _ (x n : ℕ) (bs : List ℕ) (at : ℕ) where
-  pub written_there : (m : List ℕ) → at ≤ length bs → n ≤ length bs - at → m ≡ sets bs at (hex n x) → m ≡ written x n bs at
-  unfolding written
-  written_there m h g e = rw (le-leb (at + n) (length bs) (omega arith)) e
-
-  pub written_cut : at ≤ length bs → length bs - at < n → bs ≡ written x n bs at
-  unfolding written
-  written_cut h g = rw (lt-leb (at + n) (length bs) (omega arith))
-
-  pub written_past : length bs < at → bs ≡ written x n bs at
-  unfolding written
-  written_past h = rw (lt-leb (at + n) (length bs) (omega arith))
-
-pub ruleset written_laws = (written_there, written_cut, written_past)
 
 -- a digit of a value, and the value of a digit
 spelt : (v : ℕ) → v < 16 → (b : Bool) → ltb v 10 ≡ b → digit_value (digit_of v) ≡ v
@@ -248,3 +277,17 @@ module _ (bs : List ℕ) (at : ℕ) where
       let l : n < length (drop at bs) = omega (arith, length-drop at bs) in
       rw (q, m, digit_back (get_or bs (at + n) 0) b, take-suc (drop at bs) n 0 l, g)
       (ap (λ (xs : List ℕ). xs ++ get_or bs (at + n) 0 ∷ []) (hex_back n (and_left (digits bs at n) (ltb (digit_value (get_or bs (at + n) 0)) 16) e) (omega arith)))
+
+-- a text with digits written, where there is room for them and where there is not
+module _ (x n : ℕ) (bs : List ℕ) (at : ℕ) where
+  pub written_there : (m : List ℕ) → at ≤ length bs → n ≤ length bs - at → m ≡ sets bs at (hex n x) → m ≡ written x n bs at
+  unfolding written
+  written_there m h g e = rw (le-leb (at + n) (length bs) (omega arith)) e
+
+  pub written_cut : at ≤ length bs → length bs - at < n → bs ≡ written x n bs at
+  unfolding written
+  written_cut h g = rw (lt-leb (at + n) (length bs) (omega arith))
+
+  pub written_past : length bs < at → bs ≡ written x n bs at
+  unfolding written
+  written_past h = rw (lt-leb (at + n) (length bs) (omega arith))

@@ -1,102 +1,74 @@
 // Numbers as lower-case hexadecimal digits, the high digit first: what images, job lines and answers are written in.
 #![tactic(auto)]
 
-ghost use Rattle.std.specs.Prelude.{◌≡◌, ◌<◌, ◌+◌, ◌≤◌, length};
+ghost use Rattle.std.specs.Prelude.{◌≡◌, ◌<◌, ◌+◌, ◌≤◌, length, MatchOption};
 ghost use Rattle.std.proofs.lemmas.List.Edits.{sets};
 ghost use Rattle.hexadecimal.specs.Hex.{digit_value, digit_of, hex, number_at, written};
 
-// What stands at a place of a text.
-#[derive(Clone, Copy)]
-pub enum Number {
-    Is(u64),
-    Malformed,
-}
-
-// What a byte stands for as a digit; 16 where it is none.
-fn digit(b: u8) -> u8
-    ensures { result ≡ digit_value b }
+// What a byte stands for as a digit.
+#[tactic(auto, unfolding(crate::specs::Hex::digit_value))]
+fn digit(b: u8) -> Option<u8>
+    ensures { MatchOption result (digit_value b ≡ 16) (λ v. (v ≡ digit_value b) × (v < 16)) }
 {
-    if b < b'0' {
-        return 16;
+    match b {
+        b'0'..=b'9' => Some(b - b'0'),
+        b'a'..=b'f' => Some(b - b'a' + 10),
+        _ => None,
     }
-    if b <= b'9' {
-        return b - b'0';
-    }
-    if b < b'a' {
-        return 16;
-    }
-    if b <= b'f' {
-        return b - 0x57;
-    }
-    16
 }
 
-// The number of the n digits from byte at on, which are there.
-fn number_of(bytes: &[u8], at: usize, n: usize) -> Number
-    requires { (n ≤ 16) × (at + n ≤ length bytes.now) }
-    ensures { result ≡ number_at bytes.now at n }
+// The number that digits give, sixteen at the most.
+fn number_of(digits: &[u8]) -> Option<u64>
+    requires { length digits.now ≤ 16 }
+    ensures { result ≡ number_at digits.now 0 (length digits.now) }
 {
     let mut x: u64 = 0;
-    let mut j: usize = 0;
-    while j < n {
-        let v = digit(bytes[at + j]);
-        if 16 <= v {
-            return Number::Malformed;
-        }
-        x = x * 16 + v as u64;
-        j = j + 1;
+    for &b in digits {
+        let v = digit(b)?;
+        x = x * 16 + u64::from(v);
     }
-    Number::Is(x)
+    Some(x)
 }
 
 // The number that n digits from byte at on give, sixteen digits at the most.
-pub fn number_at(bytes: &[u8], at: usize, n: usize) -> Number
+pub fn number_at(bytes: &[u8], at: usize, n: usize) -> Option<u64>
     ensures { result ≡ number_at bytes.now at n }
 {
     if 16 < n {
-        return Number::Malformed;
+        return None;
     }
-    if bytes.len() < at {
-        return Number::Malformed;
-    }
-    if bytes.len() - at < n {
-        return Number::Malformed;
-    }
-    number_of(bytes, at, n)
+    let end = at.checked_add(n)?;
+    number_of(bytes.get(at..end)?)
 }
 
 // The digit of a value below 16.
+#[tactic(auto, unfolding(crate::specs::Hex::digit_of))]
 fn spell(v: u8) -> u8
     requires { v < 16 }
     ensures { result ≡ digit_of v }
 {
-    if v < 10 {
-        return b'0' + v;
-    }
-    0x57 + v
+    if v < 10 { b'0' + v } else { b'a' - 10 + v }
 }
 
 // Writes the low n digits of x from byte at on, the last one first.
+#[tactic(auto, using(crate::specs::Laws::hex_turn))]
 fn spell_at(x: u64, n: usize, bytes: &mut [u8], at: usize)
     requires { at + n ≤ length bytes.old }
     ensures { bytes.new ≡ sets bytes.old at (hex n x) }
 {
     let mut left = x;
-    let mut j: usize = n;
-    while 0 < j {
-        j = j - 1;
+    for j in (0..n).rev() {
         bytes[at + j] = spell((left % 16) as u8);
-        left = left / 16;
+        left /= 16;
     }
 }
 
 // Writes the low n digits of x from byte at on where there is room for them, and else nothing.
+#[tactic(auto, unfolding(crate::specs::Hex::written))]
 pub fn write_at(x: u64, n: usize, bytes: &mut [u8], at: usize)
     ensures { bytes.new ≡ written x n bytes.old at }
 {
-    if at <= bytes.len() {
-        if n <= bytes.len() - at {
-            spell_at(x, n, bytes, at);
-        }
+    if at <= bytes.len() && n <= bytes.len() - at {
+        spell_at(x, n, bytes, at);
     }
 }

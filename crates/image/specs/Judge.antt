@@ -1,10 +1,10 @@
 -- The judge of a table: the fault of a line, given the lines before it; the first faulty line; what the table's end says.
-use Rattle.std.specs.Prelude.{ℕ, zero, suc, ◌+◌, ◌-◌, Bool, ◌&&◌, List, eqb, ltb, leb, length, if◌then◌else◌}
+use Rattle.std.specs.Prelude.{ℕ, zero, suc, ◌+◌, ◌-◌, Bool, ◌&&◌, List, Result, Ok, Err, eqb, ltb, leb, length, if◌then◌else◌}
 use Rattle.laws.specs.Choice.{between}
 use Rattle.frame.specs.Fault.{instruction_fault}
 use Rattle.frame.specs.declared.Frame.{Frame}
-use Rattle.image.specs.declared.Verdict.{Verdict}
-use Rattle.image.specs.declared.Verdict.TheVariants.{Done, Line, Header, Body, Op, Field, Short, Extra, Room}
+use Rattle.image.specs.declared.Refusal.{Refusal}
+use Rattle.image.specs.declared.Refusal.TheVariants.{Line, Header, Body, Op, Field, Short, Extra, Room}
 use Rattle.image.specs.Limits.{most_threads, most_events, most_updates, most_cells, most_instructions}
 use Rattle.image.specs.Layout.{frame, counts, bodies, len, lengths, due, body_at, kind_of}
 
@@ -17,16 +17,16 @@ abbrev pub say : (number line : ℕ) → Said
 say number line = record { number = number; line = line }
 
 -- what each verdict says
-abbrev pub said : Verdict → Said
-said (Done n) = say 0 n
-said (Line i) = say 1 i
-said Header = say 2 0
-said (Body i) = say 3 i
-said (Op i) = say 4 i
-said (Field i) = say 5 i
-said (Short i) = say 6 i
-said (Extra i) = say 7 i
-said Room = say 8 0
+abbrev pub said : Result ℕ Refusal → Said
+said (Ok n) = say 0 n
+said (Err (Line i)) = say 1 i
+said (Err Header) = say 2 0
+said (Err (Body i)) = say 3 i
+said (Err (Op i)) = say 4 i
+said (Err (Field i)) = say 5 i
+said (Err (Short i)) = say 6 i
+said (Err (Extra i)) = say 7 i
+said (Err Room) = say 8 0
 
 -- "op a0, d threads T (0 to 16), a events E (0 to 32), b updates U (0 to 16), imm cells C (1 to 256)"
 unfoldable pub header_fits : Frame → Bool

@@ -1,7 +1,7 @@
 // Design images as tables of frames: their limits, and what a verdict on one says. `judge` finds a table's first fault.
 #![tactic(auto)]
 
-ghost use Rattle.std.specs.Prelude.{◌≡◌};
+ghost use Rattle.std.specs.Prelude.{◌≡◌, Err};
 ghost use Rattle.image.specs.Judge.{said};
 
 // The type of design images, which owns their limits.
@@ -30,10 +30,9 @@ impl Image {
     pub const DUE_TIMES: usize = 48;
 }
 
-// What the judge, the reader and the writer answer, with the line of the first fault or the count that was done.
-#[derive(Clone, Copy)]
-pub enum Verdict {
-    Done(usize),
+// Why the judge, the reader or the writer refuses, with the line of the first fault or the count of whole frames before it.
+#[derive(Clone, Copy, Debug, PartialEq, Eq)]
+pub enum Refusal {
     Line(usize),
     Header,
     Body(usize),
@@ -44,36 +43,33 @@ pub enum Verdict {
     Room,
 }
 
-impl Verdict {
+// What they answer: the count that was done, or why nothing was.
+pub type Verdict = Result<usize, Refusal>;
+
+impl Refusal {
     pub fn number(self) -> u8
-        ensures { result ≡ (said self).number }
+        ensures { result ≡ (said (Err self)).number }
     {
         match self {
-            Verdict::Done(_) => 0,
-            Verdict::Line(_) => 1,
-            Verdict::Header => 2,
-            Verdict::Body(_) => 3,
-            Verdict::Op(_) => 4,
-            Verdict::Field(_) => 5,
-            Verdict::Short(_) => 6,
-            Verdict::Extra(_) => 7,
-            Verdict::Room => 8,
+            Refusal::Line(_) => 1,
+            Refusal::Header => 2,
+            Refusal::Body(_) => 3,
+            Refusal::Op(_) => 4,
+            Refusal::Field(_) => 5,
+            Refusal::Short(_) => 6,
+            Refusal::Extra(_) => 7,
+            Refusal::Room => 8,
         }
     }
 
     pub fn line(self) -> usize
-        ensures { result ≡ (said self).line }
+        ensures { result ≡ (said (Err self)).line }
     {
         match self {
-            Verdict::Done(n) => n,
-            Verdict::Line(i) => i,
-            Verdict::Header => 0,
-            Verdict::Body(i) => i,
-            Verdict::Op(i) => i,
-            Verdict::Field(i) => i,
-            Verdict::Short(i) => i,
-            Verdict::Extra(i) => i,
-            Verdict::Room => 0,
+            Refusal::Line(i) | Refusal::Body(i) | Refusal::Op(i) | Refusal::Field(i) => i,
+            Refusal::Short(n) | Refusal::Extra(n) => n,
+            Refusal::Header => 0,
+            Refusal::Room => 0,
         }
     }
 }

@@ -7,10 +7,8 @@ use native.Mathlib.Omega.{arith}
 use borrow.Author.Tests.{eqb-true}
 use lib.Dec.{eqb}
 use lib.ListN.{length, get_or, take, replicate, length-append, length-take, length-replicate}
-use Rattle.std.specs.Prelude.{if◌then◌else◌}
+use Rattle.std.specs.Prelude.{if◌then◌else◌, Option, None, Some}
 use Rattle.laws.specs.Choice.{between}
-use Rattle.hexadecimal.specs.declared.Number.{Number}
-use Rattle.hexadecimal.specs.declared.Number.TheVariants.{Is, Malformed}
 use Rattle.frame.specs.Fields.{fields}
 use Rattle.image.specs.Limits.{most_cells, most_lines, most_choices, most_inputs}
 use Rattle.image.specs.Layout.{counts}
@@ -19,7 +17,7 @@ use Rattle.lines.specs.Text.{Outcome, reading}
 use Rattle.kernel.specs.Run.{Answer, asked}
 use Rattle.kernel.specs.Machine.{job_of}
 use Rattle.run.proofs.Ends.{few_counts}
-use Rattle.program.specs.JobLines.{after_line, budget_of, Numbers, these, malformed, numbers_of}
+use Rattle.program.specs.JobLines.{after_line, budget_of, numbers_of}
 use Rattle.program.specs.Printing.{answer_line, cell_lines, shown, refusal, most_printed}
 use Rattle.program.specs.Whole.{from_table, from_image, by_inputs, from_inputs, by_choices, from_choices, by_budget, printed}
 use Rattle.printing.proofs.Puts.{length_line, length_cells}
@@ -53,25 +51,25 @@ module _ (b : ℕ) (cs : List ℕ) where
   image_short is image =
       by_image is image (reading image (replicate most_lines 0)) refl (eqb (reading image (replicate most_lines 0)).says.number 0) refl
 
-  by_inputs_lem : (r : Numbers) (rest : List ℕ) → length (by_inputs b cs r rest) ≤ most_printed
-  by_inputs_lem (these is) rest = image_short is rest
-  by_inputs_lem malformed rest = refusal_short 9 2
+  by_inputs_lem : (r : Option (List ℕ)) (rest : List ℕ) → length (by_inputs b cs r rest) ≤ most_printed
+  by_inputs_lem (Some is) rest = image_short is rest
+  by_inputs_lem None rest = refusal_short 9 2
 
   inputs_short : (text : List ℕ) → length (from_inputs b cs text) ≤ most_printed
   unfolding from_inputs
   inputs_short text = by_inputs_lem (numbers_of 8 most_inputs text) (after_line text)
 
-by_choices_lem : (b : ℕ) (r : Numbers) (rest : List ℕ) → length (by_choices b r rest) ≤ most_printed
-by_choices_lem b (these cs) rest = inputs_short b cs rest
-by_choices_lem b malformed rest = refusal_short 9 1
+by_choices_lem : (b : ℕ) (r : Option (List ℕ)) (rest : List ℕ) → length (by_choices b r rest) ≤ most_printed
+by_choices_lem b (Some cs) rest = inputs_short b cs rest
+by_choices_lem b None rest = refusal_short 9 1
 
 choices_short : (b : ℕ) (text : List ℕ) → length (from_choices b text) ≤ most_printed
 unfolding from_choices
 choices_short b text = by_choices_lem b (numbers_of 2 most_choices text) (after_line text)
 
-by_budget_lem : (r : Number) (rest : List ℕ) → length (by_budget r rest) ≤ most_printed
-by_budget_lem (Is b) rest = choices_short b rest
-by_budget_lem Malformed rest = refusal_short 9 0
+by_budget_lem : (r : Option ℕ) (rest : List ℕ) → length (by_budget r rest) ≤ most_printed
+by_budget_lem (Some b) rest = choices_short b rest
+by_budget_lem None rest = refusal_short 9 0
 
 pub longest_answer : (job : List ℕ) → length (printed job) ≤ most_printed
 unfolding printed

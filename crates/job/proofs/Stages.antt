@@ -1,18 +1,15 @@
 -- Laws of the stages from a job's bytes to the printed ones, as the code's returns have them. Assumes nothing.
-use Prim.Native.Nat.{ℕ, ◌+◌, ◌-◌, ◌*◌, ◌≤◌, ◌<◌}
-use mathlib.Core.Path.{◌≡◌, sym, ap, ◌∙◌}
+use Prim.Native.Nat.{ℕ, ◌≤◌, ◌<◌}
+use mathlib.Core.Path.{◌≡◌, refl, sym, ap, ◌∙◌}
 use mathlib.Core.Bool.{Bool, true, false}
 use mathlib.Core.List.{List}
 use native.Mathlib.Omega.{arith}
-use borrow.Author.Tests.{lt-ltb, le-ltb, eq-eqb, ne_eqb}
-use borrow.Author.Rules.{part_to_end}
-use lib.Dec.{ltb}
+use borrow.Author.Tests.{lt-ltb, le-ltb, leb-true, leb-false, eq-eqb, ne_eqb}
+use lib.Dec.{leb, ltb}
 use lib.ListN.{length, get_or, take, drop, replicate, length-append}
-use lib.Seq.{take_at, length-take-le}
-use Rattle.std.specs.Prelude.{if◌then◌else◌}
+use lib.Seq.{take_at, take_all, length-take-le}
+use Rattle.std.specs.Prelude.{if◌then◌else◌, Option, None, Some, unwrap_or, min, Result, Ok, Err, ok_or, MatchOption}
 use Rattle.laws.specs.Lists.{over}
-use Rattle.hexadecimal.specs.declared.Number.{Number}
-use Rattle.hexadecimal.specs.declared.Number.TheVariants.{Is, Malformed}
 use Rattle.frame.specs.declared.Frame.{Frame}
 use Rattle.frame.specs.Fields.{fields}
 use Rattle.image.specs.Limits.{most_cells, most_lines, most_choices, most_inputs}
@@ -24,33 +21,18 @@ use Rattle.lines.proofs.RoundTrip.{settled_good}
 use Rattle.lines.proofs.Few.{read_few}
 use Rattle.kernel.specs.Run.{Answer, Outcome as Ran, asked}
 use Rattle.kernel.specs.Machine.{job_of}
-use Rattle.run.proofs.Ends.{cut_counted, few_counts}
-use Rattle.job.specs.declared.Listed.{Listed}
-use Rattle.job.specs.declared.Listed.TheVariants.{Count, Broken}
-use Rattle.job.specs.Steps.{listed, count_of}
-use Rattle.program.specs.JobLines.{line_length, after_line, budget_of, numbers_of}
-use Rattle.program.specs.Printing.{refusal, most_printed}
+use Rattle.program.specs.JobLines.{after_line, budget_of, numbers_of}
+use Rattle.program.specs.Printing.{shown, refusal, most_printed}
 use Rattle.program.specs.Whole.{first_cells, from_table, by_image, from_image, from_inputs, from_choices, printed, longest_job, Written, wrote, put, shown_in, answered}
 use Rattle.program.proofs.Cap.{past_the_job}
 use Rattle.printing.proofs.Puts.{shown_is}
 
 -- the run of a table, printed
-pub table_shown : (t ch ins cs out : List ℕ) (b : ℕ) (a : Answer) (f : Frame) (w : Written) → record { answer = a; cells = cs } ≡ asked (job_of t ch ins b) (replicate most_cells 0) → f ≡ fields (get_or t 0 0) → 44 + 9 * length (take f.imm cs) ≤ length out → w ≡ shown_in a (take f.imm cs) out → w ≡ put (from_table (job_of t ch ins b)) out
+pub table_shown : (t ch ins cs : List ℕ) (b : ℕ) (a : Answer) (f : Frame) → record { answer = a; cells = cs } ≡ asked (job_of t ch ins b) (replicate most_cells 0) → f ≡ fields (get_or t 0 0) → shown a (take f.imm cs) ≡ from_table (job_of t ch ins b)
 unfolding from_table counts
-table_shown t ch ins cs out b a f w e g h q =
-    shown_is a (take f.imm cs) out w h q ∙ ap (λ (r : Ran). put (first_cells f.imm r) out) e
-    ∙ ap (λ (h : Frame). put (first_cells h.imm (asked (job_of t ch ins b) (replicate most_cells 0))) out) g
-
--- the first cells of a run on an accepted table
-module _ (t l : List ℕ) (f : Frame) (good : (judged t).number ≡ 0) (e : f ≡ fields (get_or t 0 0)) (h : most_cells ≤ length l) where
-  cells_there : f.imm ≤ length l
-  cells_there = omega (arith, (few_counts t good f e).3)
-
-  pub cells_counted : f.imm ≡ length (take f.imm l)
-  cells_counted = sym (length-take-le f.imm l cells_there)
-
-  pub cells_room : (m : ℕ) → most_printed ≤ m → 44 + 9 * length (take f.imm l) ≤ m
-  cells_room m g = omega (arith, cells_counted, (few_counts t good f e).3)
+table_shown t ch ins cs b a f e g =
+    ap (λ (r : Ran). first_cells f.imm r) e
+    ∙ ap (λ (h : Frame). first_cells h.imm (asked (job_of t ch ins b) (replicate most_cells 0))) g
 
 -- what reading leaves
 module _ (bs table : List ℕ) (h : most_lines ≤ length table) where
@@ -82,92 +64,106 @@ module _ (bs table : List ℕ) (h : most_lines ≤ length table) (s : Said) (t :
   pub table_good : (n i : ℕ) → n ≡ s.number → n ≡ 0 → i ≡ s.line → (judged (take i t)).number ≡ 0
   table_good n i p z q = rw q (by_good bs table h (outcome s t) (e ∙ read_as_lem bs table h) (sym p ∙ z))
 
-module _ (bs ch ins out : List ℕ) (b : ℕ) (s : Said) (t : List ℕ) (e : outcome s t ≡ reading bs (replicate most_lines 0)) (n i : ℕ) (p : n ≡ s.number) (q : i ≡ s.line) (w : Written) where
-  pub image_read : n ≡ 0 → w ≡ put (from_table (job_of (take i t) ch ins b)) out → w ≡ put (from_image b ch ins bs) out
+module _ (bs ch ins : List ℕ) (b : ℕ) (s : Said) (t : List ℕ) (e : outcome s t ≡ reading bs (replicate most_lines 0)) (n i : ℕ) (p : n ≡ s.number) (q : i ≡ s.line) where
+  pub image_read : (l : List ℕ) → n ≡ 0 → l ≡ from_table (job_of (take i t) ch ins b) → l ≡ from_image b ch ins bs
   unfolding from_image
-  image_read z g =
+  image_read l z g =
       let x : by_image b ch ins (outcome s t) ≡ from_table (job_of (take i t) ch ins b) = rw (eq-eqb s.number 0 (sym p ∙ z), q) in
-      g ∙ ap (λ (l : List ℕ). put l out) (sym x ∙ ap (by_image b ch ins) e)
+      g ∙ sym x ∙ ap (by_image b ch ins) e
 
-  pub image_refused : (n ≡ 0 → ⊥) → w ≡ put (refusal n i) out → w ≡ put (from_image b ch ins bs) out
+  pub image_refused : (n ≡ 0 → ⊥) → refusal n i ≡ from_image b ch ins bs
   unfolding from_image
-  image_refused z g =
+  image_refused z =
       let x : by_image b ch ins (outcome s t) ≡ refusal n i = rw (ne_eqb s.number 0 (λ y. z (p ∙ y)), p, q) in
-      g ∙ ap (λ (l : List ℕ). put l out) (sym x ∙ ap (by_image b ch ins) e)
+      sym x ∙ ap (by_image b ch ins) e
 
-pub ruleset image_laws = (image_read, image_refused)
+-- what a line that gave nothing, or something, means for the step after it
+module _ {A E : Type 0} (o : Option A) (e : E) (P : Type 0) (Q : A → Type 0) where
+  pub line_bad : (x : E) → MatchOption o P Q → Err x ≡ ok_or o e → (x ≡ e) × P
+  line_bad x m g = bad o m g
+    where
+      bad : (o : Option A) → MatchOption o P Q → ◌≡◌ {A = Result A E} (Err x) (ok_or o e) → (x ≡ e) × P
+      bad None m g = (cc, m)
+      bad (Some y) m g =
+          let z : ◌≡◌ {A = ℕ} 0 1 = cc in
+          absurd (omega arith)
 
--- what follows a line, as the code lends it
-rest_is : (text : List ℕ) (line : ℕ) → line ≡ line_length text → take (length text - (line + 1)) (drop (line + 1) text) ≡ after_line text
-rest_is text line e = part_to_end text (line + 1) ∙ ap (λ (n : ℕ). drop (n + 1) text) e
-
--- the numbers of a line, as the code lends them
-pub numbers_counted : (l : List ℕ) (n m : ℕ) (r : Listed) → r ≡ Count n → count_of r ≤ m → m ≤ length l → n ≡ length (take n l)
-numbers_counted l n m r e h g =
-    let k : n ≤ m = rw e at h in
-    sym (length-take-le n l (omega arith))
-
-pub numbers_few : (n m : ℕ) (r : Listed) → r ≡ Count n → count_of r ≤ m → n ≤ m
-numbers_few n m r e h = rw e at h
+  pub line_good : (x : A) → MatchOption o P Q → Ok x ≡ ok_or o e → Q x
+  line_good x m g = good o m g
+    where
+      good : (o : Option A) → MatchOption o P Q → ◌≡◌ {A = Result A E} (Ok x) (ok_or o e) → Q x
+      good None m g =
+          let z : ◌≡◌ {A = ℕ} 0 1 = cc in
+          absurd (omega arith)
+      good (Some y) m g =
+          let z : x ≡ y = cc in
+          rw z m
 
 -- the inputs, the choices, the budget
-module _ (text out l : List ℕ) (w : Written) (b : ℕ) (r : Listed) where
-  pub inputs_bad : (cs : List ℕ) → listed r l ≡ numbers_of 8 most_inputs text → r ≡ Broken → w ≡ put (refusal 9 2) out → w ≡ put (from_inputs b cs text) out
+module _ (text : List ℕ) (b : ℕ) where
+  pub inputs_bad : (cs : List ℕ) → numbers_of 8 most_inputs text ≡ None → refusal 9 2 ≡ from_inputs b cs text
   unfolding from_inputs
-  inputs_bad cs e g q = rw (← e, g) q
+  inputs_bad cs e = rw e
 
-  pub inputs_read : (cs : List ℕ) (n line : ℕ) → listed r l ≡ numbers_of 8 most_inputs text → r ≡ Count n → line ≡ line_length text → w ≡ put (from_image b cs (take n l) (take (length text - (line + 1)) (drop (line + 1) text))) out → w ≡ put (from_inputs b cs text) out
+  pub inputs_read : (cs is rest l : List ℕ) → numbers_of 8 most_inputs text ≡ Some is → rest ≡ after_line text → l ≡ from_image b cs is rest → l ≡ from_inputs b cs text
   unfolding from_inputs
-  inputs_read cs n line e g h q = rw (← e, g) (rw (rest_is text line h) at q)
+  inputs_read cs is rest l e g q = rw (e, ← g) q
 
-  pub choices_bad : listed r l ≡ numbers_of 2 most_choices text → r ≡ Broken → w ≡ put (refusal 9 1) out → w ≡ put (from_choices b text) out
+  pub choices_bad : numbers_of 2 most_choices text ≡ None → refusal 9 1 ≡ from_choices b text
   unfolding from_choices
-  choices_bad e g q = rw (← e, g) q
+  choices_bad e = rw e
 
-  pub choices_read : (n line : ℕ) → listed r l ≡ numbers_of 2 most_choices text → r ≡ Count n → line ≡ line_length text → w ≡ put (from_inputs b (take n l) (take (length text - (line + 1)) (drop (line + 1) text))) out → w ≡ put (from_choices b text) out
+  pub choices_read : (cs rest l : List ℕ) → numbers_of 2 most_choices text ≡ Some cs → rest ≡ after_line text → l ≡ from_inputs b cs rest → l ≡ from_choices b text
   unfolding from_choices
-  choices_read n line e g h q = rw (← e, g) (rw (rest_is text line h) at q)
+  choices_read cs rest l e g q = rw (e, ← g) q
 
-module _ (text out : List ℕ) (w : Written) (r : Number) (e : r ≡ budget_of text) where
-  pub budget_bad : r ≡ Malformed → w ≡ put (refusal 9 0) out → w ≡ put (printed text) out
+module _ (text : List ℕ) where
+  pub budget_bad : budget_of text ≡ None → refusal 9 0 ≡ printed text
   unfolding printed
-  budget_bad g q = rw (← e, g) q
+  budget_bad e = rw e
 
-  pub budget_read : (b line : ℕ) → r ≡ Is b → line ≡ line_length text → w ≡ put (from_choices b (take (length text - (line + 1)) (drop (line + 1) text))) out → w ≡ put (printed text) out
+  pub budget_read : (b : ℕ) (rest l : List ℕ) → budget_of text ≡ Some b → rest ≡ after_line text → l ≡ from_choices b rest → l ≡ printed text
   unfolding printed
-  budget_read b line g h q = rw (← e, g) (rw (rest_is text line h) at q)
-
-pub ruleset stage_laws = (inputs_bad, inputs_read, choices_bad, choices_read, budget_bad, budget_read)
+  budget_read b rest l e g q = rw (e, ← g) q
 
 -- the answer, or nothing where there is no room
-pub no_room : (job out : List ℕ) → length out < most_printed → wrote 0 out ≡ answered job out
+pub no_room : (job out : List ℕ) → length out < most_printed → wrote None out ≡ answered job out
 unfolding answered
 no_room job out h = rw (lt-ltb (length out) most_printed h)
 
-pub room : (job out : List ℕ) (w : Written) → most_printed ≤ length out → w ≡ put (printed job) out → w ≡ answered job out
-unfolding answered
-room job out w h e = rw (le-ltb (length out) most_printed h) e
-
 -- what stands past the longest job is left out
-pub room_cut : (job out : List ℕ) (w : Written) → most_printed ≤ length out → w ≡ put (printed (take longest_job job)) out → w ≡ answered job out
-room_cut job out w h e = room job out w h (e ∙ ap (λ (p : List ℕ). put p out) (past_the_job job))
+past_end : (job : List ℕ) (end : ℕ) → end ≡ min (length job) longest_job → printed (take end job) ≡ printed job
+past_end job end e = by (leb longest_job (length job)) refl
+  where
+    by : (b : Bool) → leb longest_job (length job) ≡ b → printed (take end job) ≡ printed job
+    by true g =
+        let m : end ≡ longest_job = omega (arith, leb-true longest_job (length job) g) in
+        rw m (past_the_job job)
+    by false g =
+        let m : length job ≤ end = omega (arith, leb-false longest_job (length job) g) in
+        rw (take_all end job m)
 
--- a part from the start, as the test of its length has it
-pub first_counted : (n : ℕ) (job : List ℕ) → n < length job → n ≡ length (take n job)
-first_counted n job h = cut_counted n job (omega arith)
+pub room : (job out : List ℕ) (end : ℕ) (a : Answer) (cells : List ℕ) (w : Written) → end ≡ min (length job) longest_job → most_printed ≤ length out → length cells ≤ most_cells → w ≡ shown_in a cells out → shown a cells ≡ printed (take end job) → w ≡ answered job out
+unfolding answered
+room job out end a cells w e h f g q =
+    rw (le-ltb (length out) most_printed h) (shown_is a cells out w (omega arith) g ∙ ap (λ (p : List ℕ). put p out) (q ∙ past_end job end e))
 
 -- the bytes written stand in the buffer
-module _ (job out l : List ℕ) (n : ℕ) where
-  by_room : (b : Bool) → wrote n l ≡ (if b then wrote 0 out else put (printed job) out) → n ≤ length l
-  by_room true e = omega (arith, ap (λ (w : Written). w.count) e)
-  by_room false e =
-      omega (arith, ap (λ (w : Written). w.count) e, ap (λ (w : Written). length w.bytes) e, length-append (printed job) (drop (length (printed job)) out))
+module _ (job out l : List ℕ) where
+  by_room : (r : Option ℕ) (b : Bool) → wrote r l ≡ (if b then wrote None out else put (printed job) out) → unwrap_or r 0 ≤ length l
+  by_room None b e = omega arith
+  by_room (Some n) true e =
+      let c : Some n ≡ None = ap (λ (w : Written). w.count) e in
+      let z : ◌≡◌ {A = ℕ} 0 1 = cc in
+      absurd (omega arith)
+  by_room (Some n) false e =
+      let c : Some n ≡ Some (length (printed job)) = ap (λ (w : Written). w.count) e in
+      let m : n ≡ length (printed job) = cc in
+      omega (arith, ap (λ (w : Written). length w.bytes) e, length-append (printed job) (drop (length (printed job)) out))
 
-  pub count_within : wrote n l ≡ answered job out → n ≤ length l
+  pub count_within : (r : Option ℕ) → wrote r l ≡ answered job out → unwrap_or r 0 ≤ length l
   unfolding answered
-  count_within e = by_room (ltb (length out) most_printed) e
+  count_within r e = by_room r (ltb (length out) most_printed) e
 
-  pub count_counted : wrote n l ≡ answered job out → n ≡ length (take n l)
-  count_counted e = sym (length-take-le n l (count_within e))
-
-pub ruleset count_laws = (count_within, count_counted)
+  pub count_counted : (r : Option ℕ) → wrote r l ≡ answered job out → unwrap_or r 0 ≡ length (take (unwrap_or r 0) l)
+  count_counted r e = sym (length-take-le (unwrap_or r 0) l (count_within r e))

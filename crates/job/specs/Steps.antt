@@ -1,15 +1,24 @@
--- What the code that reads a line of numbers found. Nothing public speaks of it.
-use Rattle.std.specs.Prelude.{List, ℕ, take}
-use Rattle.job.specs.declared.Listed.{Listed}
-use Rattle.job.specs.declared.Listed.TheVariants.{Count, Broken}
-use Rattle.program.specs.JobLines.{Numbers, these, malformed}
+-- What the stages of a job come to. Nothing public speaks of it.
+use Rattle.std.specs.Prelude.{List, ℕ, take, Result, Ok, Err}
+use Rattle.answer.specs.Answer.{said}
+use Rattle.image.specs.Judge.{Said, say}
+use Rattle.program.specs.Printing.{shown, refusal}
+use Rattle.job.specs.declared.ran.Ran.{Ran}
+use Rattle.job.specs.declared.Refusal.{Refusal}
+use Rattle.job.specs.declared.Refusal.TheVariants.{Budget, Choices, Inputs, Image}
 
--- so many numbers, which stand at the start of a list
-abbrev pub listed : Listed → List ℕ → Numbers
-listed (Count n) l = these (take n l)
-listed Broken l = malformed
+-- the number and the line of a refusal: "Missing or malformed job lines are 9 at that line"
+abbrev pub reason : Refusal → Said
+reason Budget = say 9 0
+reason Choices = say 9 1
+reason Inputs = say 9 2
+reason (Image n i) = say n i
 
--- how many
-abbrev pub count_of : Listed → ℕ
-count_of (Count n) = n
-count_of Broken = 0
+-- what is printed of a run that was made
+abbrev pub shows : Ran → List ℕ
+shows r = shown (said r.answer) (take r.count r.cells)
+
+-- what is printed of a job
+abbrev pub prints : Result Ran Refusal → List ℕ
+prints (Ok r) = shows r
+prints (Err e) = refusal (reason e).number (reason e).line

@@ -1,28 +1,27 @@
 -- The judge's walk over a table, as the code's loops have it: what is left from a line on gives the whole's answer. Assumes nothing.
 use Prim.Native.Nat.{ℕ, zero, suc, ◌+◌, ◌-◌, ◌≤◌, ◌<◌}
-use mathlib.Core.Path.{◌≡◌, refl, sym, ap, subst, ◌∙◌}
+use mathlib.Core.Path.{◌≡◌, refl, sym, ap, ◌∙◌}
 use mathlib.Core.Bool.{Bool, true, false, not}
 use mathlib.Core.List.{List}
 use native.Mathlib.Omega.{arith}
 use native.Mathlib.Numerals.{add-one}
 use borrow.Author.Tests.{not-true, not-false, lt-leb, le-leb}
-use lib.ListN.{length, get_or}
-use Rattle.std.specs.Prelude.{if◌then◌else◌}
+use lib.ListN.{length, get_or, take, drop, length-take}
+use lib.Seq.{get_or-take, get_or-drop}
+use Rattle.std.specs.Prelude.{Result, Ok, Err, ⊤, if◌then◌else◌}
 use Rattle.frame.specs.Fields.{fields}
 use Rattle.frame.specs.Fault.{instruction_fault, fault_number}
 use Rattle.frame.specs.declared.Frame.{Frame}
 use Rattle.frame.specs.declared.Counts.{Counts}
 use Rattle.frame.specs.declared.Kind.{Kind}
 use Rattle.frame.specs.declared.Fault.{Fault}
-use Rattle.frame.specs.declared.Fault.TheVariants.{Nothing as NoFault, Op as BadOp, Field as BadField}
-use Rattle.image.specs.declared.Verdict.{Verdict}
-use Rattle.image.specs.declared.Verdict.TheVariants.{Op, Field, Short}
+use Rattle.frame.specs.declared.Fault.TheVariants.{Op as BadOp, Field as BadField}
+use Rattle.image.specs.declared.Refusal.{Refusal}
+use Rattle.image.specs.declared.Refusal.TheVariants.{Op, Field, Short}
 use Rattle.image.specs.Limits.{most_instructions}
-use Rattle.image.specs.Layout.{counts_of, counts, bodies, len, lengths, first, due, kind_of}
+use Rattle.image.specs.Layout.{frame, counts_of, counts, bodies, len, lengths, first, due, kind_of}
 use Rattle.image.specs.Judge.{Said, say, said, header_fits, body_fits, header_fault, body_fault, fault, ending, rest, look, judged}
 use Rattle.image.proofs.Walk.{whole, rest_fine, rest_fault, rest_end, first_grows, first_next, due_above, fault_header, fault_body, fault_instruction, fault_past, ends_short, ends_extra, ends_done}
-use Rattle.judge.specs.declared.Checked.{Checked}
-use Rattle.judge.specs.declared.Checked.TheVariants.{Fine, Wrong}
 use Rattle.judge.specs.Steps.{Passed, Begun, Headed, Stands}
 
 -- past the last due frame
@@ -45,33 +44,28 @@ module _ (fs : List ℕ) (c : Counts) (k n at line : ℕ) (s : Stands fs c k n a
   unfolding due
   shorter b m = omega (arith, past, first_grows fs (suc k) (bodies fs) s.one)
 
-  pub body_short : line < at + n → length fs ≤ line → line ≤ length fs → Passed fs at n (Wrong (Short line))
-  body_short b h g =
+  pub body_short : (r : Refusal) → line < at + n → line ≤ length fs → (length fs ≤ line) × (r ≡ Short line) → Passed fs at n (Err r)
+  body_short r b g h =
       let m : line ≡ length fs = omega arith in
-      rw (e, m) (ends_short fs (shorter b m) ∙ sym (rest_end fs (length fs) (omega arith)))
+      rw (h.1, e, m) (ends_short fs (shorter b m) ∙ sym (rest_end fs (length fs) (omega arith)))
 
-  module _ (b : line < at + n) (g : line < length fs) (kind : Kind) (f : Frame) (r : Fault) (q : kind ≡ kind_of c k) (d : f ≡ fields (get_or fs line 0)) (v : fault_number r ≡ instruction_fault c kind n f) where
+  module _ (b : line < at + n) (g : line < length fs) (kind : Kind) (f : Frame) (r : Result ⊤ Fault) (q : kind ≡ kind_of c k) (d : f ≡ fields (get_or fs line 0)) (v : fault_number r ≡ instruction_fault c kind n f) where
     the_fault : fault_number r ≡ fault fs line
     the_fault =
         v
         ∙ rw (q, d, s.counted, s.long)
         (sym (fault_instruction fs line k s.one (omega (arith, s.begins)) (omega (arith, past))))
 
-    pub body_op : r ≡ BadOp → Passed fs at n (Wrong (Op line))
+    pub body_op : r ≡ Err BadOp → said (Err (Op line)) ≡ rest fs at
     body_op h = rw e (rest_fault fs line 3 g (sym (the_fault) ∙ ap fault_number h))
 
-    pub body_field : r ≡ BadField → Passed fs at n (Wrong (Field line))
+    pub body_field : r ≡ Err BadField → said (Err (Field line)) ≡ rest fs at
     body_field h = rw e (rest_fault fs line 4 g (sym (the_fault) ∙ ap fault_number h))
 
-    pub body_fine : r ≡ NoFault → rest fs at ≡ rest fs (line + 1)
-    body_fine h = e ∙ rest_fine fs line g (sym (the_fault) ∙ ap fault_number h)
+    pub body_fine : (x : ⊤) → r ≡ Ok x → rest fs at ≡ rest fs (line + 1)
+    body_fine x h = e ∙ rest_fine fs line g (sym (the_fault) ∙ ap fault_number h)
 
 pub ruleset body_laws = (body_short, body_op, body_field, body_fine)
-
-pub body_done : (fs : List ℕ) (n at line : ℕ) → rest fs at ≡ rest fs line → line ≤ at + n → at + n ≤ line → line ≤ length fs → Passed fs at n Fine
-body_done fs n at line e a b h =
-    let m : line ≡ at + n = omega arith in
-    (rw m at e, omega arith)
 
 -- a turn of the loop over the bodies, whose instructions begin at the line s
 module _ (fs : List ℕ) (c : Counts) (n : ℕ) (h : Headed fs c n) where
@@ -79,14 +73,24 @@ module _ (fs : List ℕ) (c : Counts) (n : ℕ) (h : Headed fs c n) where
   unfolding first lengths
   bodies_begin = omega (arith, h.all)
 
-  module _ (k line : ℕ) (f : Frame) (l : k < n) (e : line ≡ first fs k) (d : f ≡ fields (get_or fs (k + 1) 0)) where
+  -- the heads are lent as a slice of their own
+  module _ (k line : ℕ) (f : Frame) (l : k < length (take (1 + n - 1) (drop 1 fs))) (e : line ≡ first fs k) (d : f ≡ fields (get_or (take (1 + n - 1) (drop 1 fs)) k 0)) where
+    below_all : k < n
+    below_all = omega (arith, length-take (1 + n - 1) (drop 1 fs))
+
+    the_head : f ≡ fields (get_or fs (k + 1) 0)
+    the_head =
+        let m : 1 + k ≡ k + 1 = omega arith in
+        d ∙ ap fields (get_or-take (1 + n - 1) (drop 1 fs) k 0 (omega (arith, below_all)) ∙ get_or-drop 1 fs k 0 ∙ ap (λ (i : ℕ). get_or fs i 0) m)
+
     pub body_stands : line ≤ length fs → Stands fs c k f.imm line
     unfolding len
-    body_stands t = record { counted = h.counted; one = omega (arith, h.all); long = rw d; begins = e; there = t }
+    body_stands t =
+        record { counted = h.counted; one = omega (arith, h.all, below_all); long = rw the_head; begins = e; there = t }
 
     pub body_next : line + f.imm ≡ first fs (k + 1)
     unfolding len
-    body_next = rw (add-one, first_next, ← e, d)
+    body_next = rw (add-one, first_next, ← e, the_head)
 
   module _ (k line s : ℕ) (a : k ≤ n) (b : n ≤ k) (e : line ≡ first fs k) (q : rest fs s ≡ rest fs line) where
     at_due : line ≡ due fs
@@ -105,17 +109,7 @@ module _ (fs : List ℕ) (c : Counts) (n : ℕ) (h : Headed fs c n) where
         let m : line ≡ length fs = omega arith in
         rw (q, m) (ends_done fs (sym at_due ∙ m) ∙ sym (rest_end fs (length fs) (omega arith)))
 
-module _ (fs : List ℕ) (at n s : ℕ) (r : Checked) (p : Passed fs at n r) where
-  pub passed_wrong : (a : Verdict) → r ≡ Wrong a → rest fs s ≡ rest fs at → said a ≡ rest fs s
-  passed_wrong a e q = rw q (subst (Passed fs at n) e p)
-
-  pub passed_fine : r ≡ Fine → rest fs s ≡ rest fs at → rest fs s ≡ rest fs (at + n)
-  passed_fine e q = q ∙ (subst (Passed fs at n) e p).0
-
-  pub passed_there : r ≡ Fine → at + n ≤ length fs
-  passed_there e = (subst (Passed fs at n) e p).1
-
-pub ruleset table_laws = (bodies_begin, body_stands, body_next, table_extra, table_done, passed_wrong, passed_fine, passed_there)
+pub ruleset table_laws = (bodies_begin, body_stands, body_next, table_extra, table_done)
 
 -- a turn of the loop over the body frames
 pub lengths_none : (fs : List ℕ) → 0 ≡ lengths fs 0
@@ -156,17 +150,22 @@ module _ (fs : List ℕ) (c : Counts) (k : ℕ) (b : Begun fs c) (q : rest fs 1 
 
 pub ruleset heads_laws = (lengths_none, heads_short, heads_bad, heads_sum, heads_long, heads_fine)
 
-module _ (fs : List ℕ) (c : Counts) (k n : ℕ) (l : k ≤ n) (m : n ≤ k) where
-  pub heads_done : (t : ℕ) → Begun fs c → n ≡ 1 + c.threads + c.updates → t ≡ lengths fs k → t ≤ most_instructions → k + 1 ≤ length fs → Headed fs c n
-  unfolding bodies
-  heads_done t b e s h g =
-      let q : n ≡ k = omega arith in
-      record { counted = b.counted; all = rw (e, b.counted); there = omega arith; few = rw (q, ← s) h }
+-- from one line to the next, and past the last body frame
+module _ (fs : List ℕ) (c : Counts) (line t : ℕ) (b : Begun fs c) (i : 1 ≤ line) (q : rest fs 1 ≡ rest fs line) (e : t ≡ lengths fs (line - 1)) where
+  pub heads_turn : (f : Frame) → line < 1 + (1 + c.threads + c.updates) → (line < length fs) × (f ≡ frame fs line) → true ≡ body_fits f → t + f.imm ≤ most_instructions → (t + f.imm ≡ lengths fs (line + 1 - 1)) × (t + f.imm ≤ most_instructions) × (line + 1 ≤ length fs) × (rest fs 1 ≡ rest fs (line + 1))
+  heads_turn f g h v l =
+      let m : line ≡ line - 1 + 1 = omega arith in
+      let n : line + 1 - 1 ≡ line - 1 + 1 = omega arith in
+      let o : line - 1 + 1 + 1 ≡ line + 1 = omega arith in
+      let d : f ≡ fields (get_or fs (line - 1 + 1) 0) = h.1 ∙ ap (frame fs) m in
+      let w : rest fs 1 ≡ rest fs (line - 1 + 1) = q ∙ ap (rest fs) m in
+      (heads_sum fs c (line - 1) b w (omega arith) f t (omega arith) d e ∙ ap (lengths fs) (sym n), l, omega arith, heads_fine fs c (line - 1) b w (omega arith) f t (omega arith) d true v refl e l ∙ ap (rest fs) o)
 
-  pub heads_rest : (a : Said) → rest fs 1 ≡ rest fs (k + 1) → a ≡ rest fs (1 + n) → a ≡ rest fs 1
-  heads_rest a e h =
-      let q : 1 + n ≡ k + 1 = omega arith in
-      h ∙ ap (rest fs) q ∙ sym e
+  pub heads_done : (n : ℕ) → n ≡ 1 + c.threads + c.updates → 1 + n ≤ line → line ≤ 1 + n → t ≤ most_instructions → line ≤ length fs → Headed fs c n
+  unfolding bodies
+  heads_done n a l m h g =
+      let r : n ≡ line - 1 = omega arith in
+      record { counted = b.counted; all = rw (a, b.counted); there = omega arith; few = rw (r, ← e) h }
 
 -- the header
 module _ (fs : List ℕ) where

@@ -1,16 +1,15 @@
 -- Words for the contracts of the private functions: how far a loop has come. Nothing public speaks of them.
-use Rattle.std.specs.Prelude.{ℕ, ◌+◌, ◌≤◌, ◌<◌, ◌≡◌, List, length}
+use Rattle.std.specs.Prelude.{ℕ, ◌+◌, ◌≤◌, ◌<◌, ◌≡◌, List, length, Result, Ok, Err, ⊤}
 use Rattle.frame.specs.declared.Counts.{Counts}
-use Rattle.judge.specs.declared.Checked.{Checked}
-use Rattle.judge.specs.declared.Checked.TheVariants.{Fine, Wrong}
+use Rattle.image.specs.declared.Refusal.{Refusal}
 use Rattle.image.specs.Limits.{most_instructions}
 use Rattle.image.specs.Layout.{counts, bodies, len, lengths, first}
 use Rattle.image.specs.Judge.{said, rest}
 
 -- what a body's instructions answer: on to the line past them, or the answer of the whole
-abbrev pub Passed : List ℕ → (at n : ℕ) → Checked → Type 0
-Passed fs at n Fine = (rest fs at ≡ rest fs (at + n)) × (at + n ≤ length fs)
-Passed fs at n (Wrong v) = said v ≡ rest fs at
+abbrev pub Passed : List ℕ → (at n : ℕ) → Result ⊤ Refusal → Type 0
+Passed fs at n (Ok _) = (rest fs at ≡ rest fs (at + n)) × (at + n ≤ length fs)
+Passed fs at n (Err r) = said (Err r) ≡ rest fs at
 
 -- what is known once the header is looked at
 pub record Begun (fs : List ℕ) (c : Counts) : Type 0 where

@@ -1,15 +1,16 @@
 // The judge, which finds the first fault of a table of frames.
 #![tactic(auto)]
 
-ghost use Rattle.std.specs.Prelude.{◌≡◌, ◌+◌};
-ghost use Rattle.image.specs.Layout.{counts_of, kind_of};
+ghost use Rattle.std.specs.Prelude.{◌≡◌, ◌+◌, ◌<◌, ◌≤◌, IfOk, IfErr, length};
+ghost use Rattle.image.specs.Layout.{frame, counts_of, kind_of};
+ghost use Rattle.image.specs.declared.Refusal.TheVariants.{Short};
 ghost use Rattle.image.specs.Judge.{said, header_fits, body_fits, rest, judged};
 ghost use Rattle.judge.specs.Steps.{Passed, Begun, Headed, Stands};
 
 use frame::{Counts, Fault, Frame, Kind};
-use image::{Image, Verdict};
+use image::{Image, Refusal, Verdict};
 
-// The counts of a header.
+// The counts of a header. No `From`: only a header's fields are counts.
 fn counts_of(f: Frame) -> Counts
     ensures { result ≡ counts_of f }
 {
@@ -21,151 +22,110 @@ fn counts_of(f: Frame) -> Counts
     }
 }
 
+#[tactic(auto, unfolding(image::specs::Judge::header_fits))]
 fn header_fits(f: Frame) -> bool
     ensures { result ≡ header_fits f }
 {
-    if f.op != 0xa0 {
-        return false;
-    }
-    if Image::THREADS < f.d {
-        return false;
-    }
-    if Image::EVENTS < f.a {
-        return false;
-    }
-    if Image::UPDATES < f.b {
-        return false;
-    }
-    if f.imm < 1 {
-        return false;
-    }
-    f.imm <= Image::CELLS
+    f.op == 0xa0
+        && f.d <= Image::THREADS
+        && f.a <= Image::EVENTS
+        && f.b <= Image::UPDATES
+        && (1..=Image::CELLS).contains(&f.imm)
 }
 
+#[tactic(auto, unfolding(image::specs::Judge::body_fits))]
 fn body_fits(f: Frame) -> bool
     ensures { result ≡ body_fits f }
 {
-    if f.op != 0xa1 {
-        return false;
-    }
-    if f.d != 0 {
-        return false;
-    }
-    if f.a != 0 {
-        return false;
-    }
-    f.b == 0
+    f.op == 0xa1 && f.d == 0 && f.a == 0 && f.b == 0
+}
+
+// The frame on a line that is due.
+fn frame_at(table: &[u64], line: usize) -> Result<Frame, Refusal>
+    ensures there { IfOk result (λ f. (line < length table.now) × (f ≡ frame table.now line)) }
+    ensures short { IfErr result (λ r. (length table.now ≤ line) × (r ≡ Short line)) }
+{
+    let &word = table.get(line).ok_or(Refusal::Short(line))?;
+    Ok(Frame::from(word))
 }
 
 // The kind of body k.
+#[tactic(auto, using(crate::proofs::Frames::kind_laws))]
 fn kind_of(c: Counts, k: usize) -> Kind
     ensures { result ≡ kind_of c k }
 {
     if k == 0 {
-        return Kind::Main;
+        Kind::Main
+    } else if k - 1 < c.threads as usize {
+        Kind::Thread
+    } else {
+        Kind::Update
     }
-    if k - 1 < c.threads as usize {
-        return Kind::Thread;
-    }
-    Kind::Update
-}
-
-// What looking at a body's instructions found.
-#[derive(Clone, Copy)]
-enum Checked {
-    Fine,
-    Wrong(Verdict),
 }
 
 // The n instructions of body k, from the line at on.
-fn judge_body(table: &[u64], c: Counts, k: usize, n: u32, at: usize) -> Checked
+#[tactic(auto, using(crate::proofs::Loops::body_laws))]
+fn judge_body(table: &[u64], c: Counts, k: usize, n: u32, at: usize) -> Result<(), Refusal>
     requires { Stands table.now c k n at }
     ensures { Passed table.now at n result }
 {
     let kind = kind_of(c, k);
-    let end = at + n as usize;
-    let mut line = at;
-    while line < end {
-        if table.len() <= line {
-            return Checked::Wrong(Verdict::Short(line));
-        }
-        let f = frame::decode(table[line]);
+    for line in at..at + n as usize {
+        let f = frame_at(table, line)?;
+        // A match, since with `map_err` and a closure the facts of the two refusals did not come through.
         match fault::fault_of(c, kind, n, f) {
-            Fault::Nothing => {}
-            Fault::Op => {
-                return Checked::Wrong(Verdict::Op(line));
-            }
-            Fault::Field => {
-                return Checked::Wrong(Verdict::Field(line));
-            }
+            Ok(()) => {}
+            Err(Fault::Op) => return Err(Refusal::Op(line)),
+            Err(Fault::Field) => return Err(Refusal::Field(line)),
         }
-        line = line + 1;
     }
-    Checked::Fine
+    Ok(())
 }
 
 // The instructions of all bodies, and the table's end.
+#[tactic(auto, using(crate::proofs::Loops::table_laws))]
 fn judge_instructions(table: &[u64], c: Counts, bodies: usize) -> Verdict
     requires { Headed table.now c bodies }
     ensures { said result ≡ rest table.now (1 + bodies) }
 {
     let mut line = 1 + bodies;
-    let mut k: usize = 0;
-    while k < bodies {
-        let f = frame::decode(table[k + 1]);
-        let n = f.imm;
-        let found = judge_body(table, c, k, n, line);
-        match found {
-            Checked::Wrong(v) => {
-                return v;
-            }
-            Checked::Fine => {}
-        }
-        line = line + n as usize;
-        k = k + 1;
+    for (k, &head) in table[1..line].iter().enumerate() {
+        let n = Frame::from(head).imm;
+        judge_body(table, c, k, n, line)?;
+        line += n as usize;
     }
     if line < table.len() {
-        return Verdict::Extra(line);
+        return Err(Refusal::Extra(line));
     }
-    Verdict::Done(line)
+    Ok(line)
 }
 
 // The body frames, and all that follows.
+#[tactic(auto, using(crate::proofs::Loops::heads_laws))]
 fn judge_bodies(table: &[u64], c: Counts) -> Verdict
     requires { Begun table.now c }
     ensures { said result ≡ rest table.now 1 }
 {
     let bodies = 1 + c.threads as usize + c.updates as usize;
     let mut total: usize = 0;
-    let mut k: usize = 0;
-    while k < bodies {
-        let line = k + 1;
-        if table.len() <= line {
-            return Verdict::Short(line);
+    for line in 1..1 + bodies {
+        let head = frame_at(table, line)?;
+        total += head.imm as usize;
+        if !body_fits(head) || Image::INSTRUCTIONS < total {
+            return Err(Refusal::Body(line));
         }
-        let f = frame::decode(table[line]);
-        if !body_fits(f) {
-            return Verdict::Body(line);
-        }
-        total = total + f.imm as usize;
-        if Image::INSTRUCTIONS < total {
-            return Verdict::Body(line);
-        }
-        k = line;
     }
     judge_instructions(table, c, bodies)
 }
 
 // The first fault of a table, or the count of its frames.
+#[tactic(auto, using(crate::proofs::Loops::judge_laws))]
 pub fn judge(table: &[u64]) -> Verdict
     ensures { said result ≡ judged table.now }
 {
-    if table.len() == 0 {
-        return Verdict::Short(0);
+    let header = frame_at(table, 0)?;
+    if !header_fits(header) {
+        return Err(Refusal::Header);
     }
-    let h = frame::decode(table[0]);
-    if !header_fits(h) {
-        return Verdict::Header;
-    }
-    judge_bodies(table, counts_of(h))
+    judge_bodies(table, counts_of(header))
 }

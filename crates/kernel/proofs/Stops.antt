@@ -8,9 +8,8 @@ use native.Mathlib.Omega.{arith}
 use lib.Dec.{eqb}
 use lib.IntN.{ℤ, ◌+ℤ◌, ◌-ℤ◌, ◌*ℤ◌}
 use lib.Signed.{quot_z, rem_z}
-use Rattle.std.specs.Prelude.{if◌then◌else◌}
+use Rattle.std.specs.Prelude.{Some, None, if◌then◌else◌}
 use Rattle.word.specs.Word.{Result, value, stop, quot_u, rem_u, signed, bits_of, in_range, narrow, add_s, sub_s, mul_s, division_s, quot_s, rem_s}
-use Rattle.frame.specs.declared.Known.TheVariants.{Op, Unknown}
 use Rattle.frame.specs.Fault.{instruction_fault}
 use Rattle.image.specs.Layout.{frame, counts, bodies, len, first, kind_of}
 use Rattle.image.specs.Judge.{judged}
@@ -62,11 +61,11 @@ data Sounds : List Row → Type 0 where
   ◌&◌ : {r : Row} {rs : List Row} → Sound r.meaning → Sounds rs → Sounds (r ∷ rs)
 
 -- what is found in the list is sound, or nothing is found
-look_sound : (rs : List Row) (n : ℕ) → Sounds rs → Sound (look_meaning rs n) ⊎ ((look_meaning rs n ≡ unknown) × (look rs n ≡ Unknown))
+look_sound : (rs : List Row) (n : ℕ) → Sounds rs → Sound (look_meaning rs n) ⊎ ((look_meaning rs n ≡ unknown) × (look rs n ≡ None))
 look_sound [] n end = inr (refl, refl)
 look_sound (r ∷ rs) n (p & h) = by (eqb n r.number) (look_sound rs n h)
   where
-    by : (b : Bool) → Sound (look_meaning rs n) ⊎ ((look_meaning rs n ≡ unknown) × (look rs n ≡ Unknown)) → Sound (if b then r.meaning else look_meaning rs n) ⊎ (((if b then r.meaning else look_meaning rs n) ≡ unknown) × ((if b then Op r.uses else look rs n) ≡ Unknown))
+    by : (b : Bool) → Sound (look_meaning rs n) ⊎ ((look_meaning rs n ≡ unknown) × (look rs n ≡ None)) → Sound (if b then r.meaning else look_meaning rs n) ⊎ (((if b then r.meaning else look_meaning rs n) ≡ unknown) × ((if b then Some r.uses else look rs n) ≡ None))
     by true q = inl p
     by false q = q
 
@@ -118,7 +117,7 @@ sound_ops =
 
 module _ (t : Table) where
   -- an accepted table has no unknown op in its bodies
-  no_unknown : (k p : ℕ) → k < threads t + updates t + 1 → p < length_of t k → uses_of (instruction t k p).op ≡ Unknown → (judged t).number ≡ 0 → ⊥
+  no_unknown : (k p : ℕ) → k < threads t + updates t + 1 → p < length_of t k → uses_of (instruction t k p).op ≡ None → (judged t).number ≡ 0 → ⊥
   unfolding instruction_fault bodies
   no_unknown k p l m q good =
       let e : instruction_fault (counts t) (kind_of (counts t) k) (len t k) (frame t (first t k + p)) ≡ 0 = fine_instruction t good k p (omega arith) m in
@@ -132,6 +131,6 @@ module _ (t : Table) where
       o : ℕ
       o = (instruction t k p).op
 
-      by : Sound (look_meaning ops o) ⊎ ((look_meaning ops o ≡ unknown) × (look ops o ≡ Unknown)) → Sound (look_meaning ops o) ⊎ ((look_meaning ops o ≡ unknown) × ((judged t).number ≡ 0 → ⊥))
+      by : Sound (look_meaning ops o) ⊎ ((look_meaning ops o ≡ unknown) × (look ops o ≡ None)) → Sound (look_meaning ops o) ⊎ ((look_meaning ops o ≡ unknown) × ((judged t).number ≡ 0 → ⊥))
       by (inl h) = inl h
       by (inr e) = inr (e.0, no_unknown k p l m e.1)

@@ -43,12 +43,9 @@ copy_turn l xs ys i h e = rw (add-one i) (rw (drop-cons xs i 0 h) at e)
 pub copy_end : (l xs ys : List ℕ) (i : ℕ) → length xs ≤ i → sets l i (drop i xs) ≡ ys → l ≡ ys
 copy_end l xs ys i h e = rw (drop_all xs i h) at e
 
--- a store or a load at a place, or past the end
-module _ (l : List ℕ) (i : ℕ) where
-  pub set_past : (y : ℕ) → length l ≤ i → l ≡ set l i y
-  set_past y h = sym (set_out l i y h)
+-- a store past the end, and a load
+pub set_past : {A : Type 0} (l : List A) (i : ℕ) (y : A) → length l ≤ i → l ≡ set l i y
+set_past l i y h = sym (set_out l i y h)
 
-  pub none_past : length l ≤ i → 0 ≡ get_or l i 0
-  none_past h = sym (get_or-eq_default l 0 h)
-
-pub ruleset stores = (set_past, none_past)
+pub none_past : (l : List ℕ) (i : ℕ) → length l ≤ i → 0 ≡ get_or l i 0
+none_past l i h = sym (get_or-eq_default l 0 h)

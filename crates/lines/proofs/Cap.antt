@@ -1,4 +1,5 @@
 -- That at most 1,058 lines are looked at loses nothing: any greater number gives the same answer. Assumes nothing.
+use Rattle.std.specs.Prelude.{Option, None, Some}
 use Prim.Native.Nat.{ℕ, zero, suc, ◌+◌, ◌*◌, ◌≤◌, ◌<◌}
 use mathlib.Core.Path.{◌≡◌, refl, sym, ap, ◌∙◌}
 use mathlib.Core.Bool.{Bool, true, false}
@@ -9,8 +10,6 @@ use borrow.Author.Tests.{ltb-true, ltb-false, leb-true, leb-false, lt-ltb, ne_eq
 use lib.Dec.{ltb, leb}
 use lib.ListN.{length, take, drop, length-drop, length-take}
 use lib.Seq.{take_all, take-nil, length-take-le}
-use Rattle.hexadecimal.specs.declared.Number.{Number}
-use Rattle.hexadecimal.specs.declared.Number.TheVariants.{Is, Malformed}
 use Rattle.image.specs.Limits.{most_lines}
 use Rattle.image.specs.Layout.{counts, bodies, due}
 use Rattle.image.specs.Judge.{Said, say, fault, judged}
@@ -22,9 +21,9 @@ use Rattle.lines.proofs.Texts.{length_text}
 use Rattle.lines.proofs.RoundTrip.{text_back, settled_good}
 
 -- fewer lines are the first of more lines
-before_take : (l : Number) (m : ℕ) (xs ys : List ℕ) → xs ≡ take m ys → before l xs ≡ take (suc m) (before l ys)
-before_take (Is f) m xs ys e = ap (λ (r : List ℕ). f ∷ r) e
-before_take Malformed m xs ys e = sym (take-nil (suc m))
+before_take : (l : Option ℕ) (m : ℕ) (xs ys : List ℕ) → xs ≡ take m ys → before l xs ≡ take (suc m) (before l ys)
+before_take (Some f) m xs ys e = ap (λ (r : List ℕ). f ∷ r) e
+before_take None m xs ys e = sym (take-nil (suc m))
 
 fewer : (bs : List ℕ) (i m n : ℕ) → m ≤ n → frames_from bs i m ≡ take m (frames_from bs i n)
 unfolding frames_from

@@ -8,12 +8,10 @@ use borrow.Author.Tests.{ltb-false, eqb-true, eqb-false, le-ltb, eq-eqb}
 use lib.Dec.{eqb, ltb}
 use lib.ListN.{length, get_or, take, drop, length-append, length-drop, get_or-append}
 use lib.Seq.{get_or_at, get_or-append-add, get_or-drop, take-suc, take-add, drop-drop, take_at, take_all}
-use Rattle.std.specs.Prelude.{if◌then◌else◌}
+use Rattle.std.specs.Prelude.{if◌then◌else◌, Option, None, Some}
 use Rattle.laws.specs.Lists.{over}
 use Rattle.hexadecimal.specs.Hex.{digits, value, number_at, hex}
 use Rattle.hexadecimal.specs.Laws.{length_hex, hex_read, hex_back, Reads, number_reads, reads_number}
-use Rattle.hexadecimal.specs.declared.Number.{Number}
-use Rattle.hexadecimal.specs.declared.Number.TheVariants.{Is, Malformed}
 use Rattle.image.specs.Limits.{most_lines}
 use Rattle.image.specs.Judge.{Said, say, judged}
 use Rattle.image.proofs.Accepted.{accepted_has}
@@ -23,14 +21,14 @@ use Rattle.lines.proofs.Lines.{line_short, line_there}
 use Rattle.lines.proofs.Texts.{length_line, length_text}
 
 module _ (bs : List ℕ) (at : ℕ) where
-  by_end : (f : ℕ) (b : Bool) → eqb (get_or bs (at + 16) 0) 0x0a ≡ b → (if b then number_at bs at 16 else Malformed) ≡ Is f → (get_or bs (at + 16) 0 ≡ 0x0a) × Reads bs at 16 f
+  by_end : (f : ℕ) (b : Bool) → eqb (get_or bs (at + 16) 0) 0x0a ≡ b → (if b then number_at bs at 16 else None) ≡ Some f → (get_or bs (at + 16) 0 ≡ 0x0a) × Reads bs at 16 f
   by_end f true p e = (eqb-true (get_or bs (at + 16) 0) 0x0a p, number_reads bs at 16 f e)
   by_end f false p e =
       let z : ◌≡◌ {A = ℕ} 0 1 = cc in
       absurd (omega arith)
 
   -- the line of a frame that was read
-  line_back : (f : ℕ) → line_at bs at ≡ Is f → line f ≡ take 17 (drop at bs)
+  line_back : (f : ℕ) → line_at bs at ≡ Some f → line f ≡ take 17 (drop at bs)
   unfolding line_at line
   line_back f e =
       let t : at + 17 ≤ length bs = line_there bs at f (line_at bs at) refl e in
@@ -40,7 +38,7 @@ module _ (bs : List ℕ) (at : ℕ) where
       rw (← r.1.number, hex_back bs at 16 r.1.good (omega arith), take-suc (drop at bs) 16 0 l, g)
 
 -- a line in a text, read
-line_read : (p t : List ℕ) (f : ℕ) → f < 2 ^ 64 → line_at (p ++ (line f ++ t)) (length p) ≡ Is f
+line_read : (p t : List ℕ) (f : ℕ) → f < 2 ^ 64 → line_at (p ++ (line f ++ t)) (length p) ≡ Some f
 unfolding line_at line
 line_read p t f h =
     let bs : List ℕ = p ++ ((hex 16 f ++ 10 ∷ []) ++ t) in
@@ -65,14 +63,14 @@ frames_read (f ∷ fs) p i (suc n) w h l =
     let k : length (p ++ line f) ≡ 17 * suc i = length-append p (line f) ∙ omega (arith, length_line f) in
     rw
     (← h, line_read p (text fs) f w.0)
-    (subst (λ (bs : List ℕ). before (Is f) (frames_from bs (suc i) n) ≡ f ∷ fs) (sym a)
+    (subst (λ (bs : List ℕ). before (Some f) (frames_from bs (suc i) n) ≡ f ∷ fs) (sym a)
     (ap (λ (l : List ℕ). f ∷ l) (frames_read fs (p ++ line f) (suc i) n w.1 k (omega arith))))
 
 -- the text of the frames that were read
-text_by : (bs : List ℕ) (i : ℕ) (l : Number) (r : List ℕ) → line_at bs (17 * i) ≡ l → text r ≡ take (17 * length r) (drop (17 * suc i) bs) → text (before l r) ≡ take (17 * length (before l r)) (drop (17 * i) bs)
+text_by : (bs : List ℕ) (i : ℕ) (l : Option ℕ) (r : List ℕ) → line_at bs (17 * i) ≡ l → text r ≡ take (17 * length r) (drop (17 * suc i) bs) → text (before l r) ≡ take (17 * length (before l r)) (drop (17 * i) bs)
 unfolding text
-text_by bs i Malformed r e h = refl
-text_by bs i (Is f) r e h =
+text_by bs i None r e h = refl
+text_by bs i (Some f) r e h =
     let m : 17 * suc (length r) ≡ 17 + 17 * length r = omega arith in
     let k : 17 * i + 17 ≡ 17 * suc i = omega arith in
     rw (m, take-add, line_back bs (17 * i) f e, drop-drop, k, h)

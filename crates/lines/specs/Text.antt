@@ -1,20 +1,18 @@
 -- The lines of an image, reading and writing.
-use Rattle.std.specs.Prelude.{ℕ, zero, suc, ◌+◌, ◌*◌, Bool, true, false, List, [], ◌∷◌, ◌++◌, eqb, ltb, length, get_or, if◌then◌else◌}
+use Rattle.std.specs.Prelude.{ℕ, zero, suc, ◌+◌, ◌*◌, Bool, true, false, List, [], ◌∷◌, ◌++◌, eqb, ltb, length, get_or, if◌then◌else◌, Option, None, Some}
 use Rattle.laws.specs.Lists.{over}
 use Rattle.hexadecimal.specs.Hex.{number_at, hex}
-use Rattle.hexadecimal.specs.declared.Number.{Number}
-use Rattle.hexadecimal.specs.declared.Number.TheVariants.{Is, Malformed}
 use Rattle.image.specs.Limits.{most_lines}
 use Rattle.image.specs.Judge.{Said, say, judged}
 
 -- the line that begins at byte `at`: "sixteen digits 0-9a-f, then byte 0a"
-unfoldable pub line_at : List ℕ → ℕ → Number
-line_at bs at = if eqb (get_or bs (at + 16) 0) 0x0a then number_at bs at 16 else Malformed
+unfoldable pub line_at : List ℕ → ℕ → Option ℕ
+line_at bs at = if eqb (get_or bs (at + 16) 0) 0x0a then number_at bs at 16 else None
 
 -- the frames of the lines from line i on, at most n, up to the first that is malformed
-abbrev pub before : Number → List ℕ → List ℕ
-before (Is f) fs = f ∷ fs
-before Malformed fs = []
+abbrev pub before : Option ℕ → List ℕ → List ℕ
+before (Some f) fs = f ∷ fs
+before None fs = []
 
 unfoldable pub frames_from : List ℕ → (i n : ℕ) → List ℕ
 frames_from bs i zero = []

@@ -1,102 +1,61 @@
 // The machine's turns.
 #![tactic(auto)]
 
-ghost use Rattle.std.specs.Prelude.{◌≡◌, ◌<◌, ◌^◌, length};
+ghost use Rattle.std.specs.Prelude.{◌≡◌};
 ghost use Rattle.marks.specs.Marks.{first_asked};
-ghost use Rattle.shows.specs.Shows.{lists};
-ghost use Rattle.turns.specs.Code.{code, enters_to, enters_at, turn, is_over, turns};
+ghost use Rattle.turns.specs.Code.{threads_of, lists_of, code_of, SameSlices, enters_to, enters_at, is_over, turn_of, turns_of};
 
-use marks::Found;
-use turns::{Control, Now};
+use turns::{Control, Job, Now, State};
 
 // The update phase: the first requested update runs from its first instruction.
-fn update_phase(n: Now, threads: usize, places: &mut [usize]) -> Now
-    requires { threads < 2 ^ 63 }
-    ensures { (result ≡ enters_to threads (first_asked n.marks) n) × (places.new ≡ enters_at threads (first_asked n.marks) places.old) }
+#[tactic(auto, using(crate::proofs::Arms::few_asked))]
+fn update_phase(n: Now, s: &mut State<'_>) -> Now
+    ensures value { result ≡ enters_to (threads_of s.old) (first_asked n.marks) n }
+    ensures places_after { s.new.places.now ≡ enters_at (threads_of s.old) (first_asked n.marks) s.old.places.now }
+    ensures lists_stay { lists_of s.new ≡ lists_of s.old }
+    ensures same_slices { SameSlices s.old s.new }
 {
-    let marks = n.marks;
-    let Found::At(u) = marks::first_requested(marks) else {
-        return turns::to(n, Control::DeltaPhase);
+    let Some(u) = n.marks.first_requested() else {
+        return n.to(Control::DeltaPhase);
     };
-    let b = threads + 1 + u;
-    places::put_place(places, b, 0);
-    turns::to(n, Control::Runs(b))
+    let b = s.threads() + 1 + u;
+    slots::put(s.places, b, 0);
+    n.to(Control::Runs(b))
+}
+
+// One turn of the machine: evaluation first, so that a thread that waits and the next dispatch take one turn.
+#[tactic(auto, unfolding(turns::specs::Code::turn))]
+fn turn_once(job: &Job<'_>, n: Now, s: &mut State<'_>, cells: &mut [u32]) -> Now
+    ensures value { code_of result s.new cells.new ≡ turn_of job.now (threads_of s.old) (code_of n s.old cells.old) }
+    ensures same_slices { SameSlices s.old s.new }
+{
+    let n = evaluation::settle(job.choices, n);
+    match n.control {
+        Control::Runs(b) => body::run(job, s.threads(), b, n, s, cells),
+        Control::UpdatePhase => update_phase(n, s),
+        Control::DeltaPhase => moves::delta_phase(n, s.waiters),
+        Control::TimePhase => moves::time_phase(n, s),
+        Control::Turn | Control::Evaluation | Control::Over(_, _, _) => n,
+    }
 }
 
 fn is_over(c: Control) -> bool
     ensures { result ≡ is_over c }
 {
-    match c {
-        Control::Runs(_) => false,
-        Control::UpdatePhase => false,
-        Control::DeltaPhase => false,
-        Control::Turn => false,
-        Control::Evaluation => false,
-        Control::TimePhase => false,
-        Control::Over(_, _, _) => true,
-    }
+    matches!(c, Control::Over(_, _, _))
 }
 
-// One turn of the machine: evaluation first, so that a thread that waits and the next dispatch take one turn.
-fn turn_once(
-    table: &[u64],
-    choices: &[u8],
-    inputs: &[u32],
-    firsts: &[usize],
-    threads: usize,
-    n: Now,
-    pends: &mut [u64],
-    waits: &mut [u64],
-    waiters: &mut [u32],
-    places: &mut [usize],
-    cells: &mut [u32],
-) -> Now
-    requires { threads < 2 ^ 63 }
-    ensures { code result (lists pends.new waits.new waiters.new) places.new cells.new ≡ turn table.now choices.now inputs.now firsts.now threads (code n (lists pends.old waits.old waiters.old) places.old cells.old) }
+// The machine until the run is over; `bound` turns are enough.
+pub fn machine(job: &Job<'_>, start: Now, bound: u64, s: &mut State<'_>, cells: &mut [u32]) -> Now
+    ensures value { code_of result s.new cells.new ≡ turns_of job.now (threads_of s.old) bound (code_of start s.old cells.old) }
+    ensures same_slices { SameSlices s.old s.new }
 {
-    let m = evaluation::settle(choices, n);
-    let c = m.control;
-    match c {
-        Control::Runs(b) => body::run(
-            table, inputs, firsts, threads, b, m, pends, waits, waiters, places, cells,
-        ),
-        Control::UpdatePhase => update_phase(m, threads, places),
-        Control::DeltaPhase => moves::delta_phase(m, waiters),
-        Control::TimePhase => moves::time_phase(m, pends, waits, waiters),
-        Control::Turn => m,
-        Control::Evaluation => m,
-        Control::Over(_, _, _) => m,
-    }
-}
-
-// The machine until the run is over; `bound` turns are enough. There are as many threads as waits for a time.
-pub fn machine(
-    table: &[u64],
-    choices: &[u8],
-    inputs: &[u32],
-    firsts: &[usize],
-    start: Now,
-    bound: u64,
-    pends: &mut [u64],
-    waits: &mut [u64],
-    waiters: &mut [u32],
-    places: &mut [usize],
-    cells: &mut [u32],
-) -> Now
-    ensures { code result (lists pends.new waits.new waiters.new) places.new cells.new ≡ turns table.now choices.now inputs.now firsts.now (length waits.old) bound (code start (lists pends.old waits.old waiters.old) places.old cells.old) }
-{
-    let threads = waits.len();
     let mut n = start;
-    let mut more = bound;
-    while 0 < more {
-        let c = n.control;
-        if is_over(c) {
+    for _ in 0..bound {
+        if is_over(n.control) {
             return n;
         }
-        n = turn_once(
-            table, choices, inputs, firsts, threads, n, pends, waits, waiters, places, cells,
-        );
-        more = more - 1;
+        n = turn_once(job, n, s, cells);
     }
     n
 }

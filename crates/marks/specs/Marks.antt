@@ -1,10 +1,8 @@
--- What the code, here and in the crate `marking`, makes of the marks. Document 01, "The kernel"; the crate `shows` says what that is for the kernel they show.
-use Rattle.std.specs.Prelude.{ℕ, ◌%◌, Bool, not, ◌&&◌, eqb, ltb, if◌then◌else◌}
+-- What the code makes of the marks. Document 01, "The kernel"; the crate `shows` says what that is for the kernel they show.
+use Rattle.std.specs.Prelude.{ℕ, ◌%◌, Option, Some, None, Bool, not, ◌&&◌, eqb, ltb, if◌then◌else◌}
 use Rattle.sets.specs.Sets.{has, join, minus, with, without, below, least_of}
 use Rattle.kernel.specs.Search.{Found, none, found}
 use Rattle.marks.specs.declared.Marks.{Marks}
-use Rattle.marks.specs.declared.Found.{Found as FoundCode}
-use Rattle.marks.specs.declared.Found.TheVariants.{At as FoundAt, Nothing as FoundNothing}
 
 -- Threads, and updates -----------------------------------------------------------------------------------------
 
@@ -23,9 +21,9 @@ unfoldable pub first_asked : Marks → Found
 first_asked m = if eqb (m.requested % 4294967296) 0 then none else found (least_of m.requested)
 
 -- what the answer stands for: a place or nothing
-abbrev pub found_of : FoundCode → Found
-found_of (FoundAt i) = found i
-found_of FoundNothing = none
+abbrev pub found_of : Option ℕ → Found
+found_of (Some i) = found i
+found_of None = none
 
 -- "the threads not ended, thread 0 as bit 0"
 unfoldable pub not_ended : Marks → ℕ

@@ -1,2 +1,1 @@
-pub mod Arms
 pub mod Unique

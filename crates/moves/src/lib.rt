@@ -2,99 +2,80 @@
 #![tactic(auto)]
 
 ghost use Rattle.std.specs.Prelude.{◌≡◌, []};
+ghost use Rattle.dues.specs.Codes.{due_time};
 ghost use Rattle.shows.specs.Shows.{lists};
-ghost use Rattle.turns.specs.Code.{delta_to, delta_in, least_of, closed, moved_to, timed_by, served_by, phase_number, ends_to};
+ghost use Rattle.turns.specs.Code.{lists_of, SameSlices, delta_to, delta_in, least_of, is_beyond, timed_by, served_by, phase_ending, ends_to};
 
-use dues::Due;
-use marks::Marks;
-use turns::{Control, Now};
+use ending::Ending;
+use turns::{Control, Now, Stage, State};
 
 // The delta phase: all delta work is done together.
 pub fn delta_phase(n: Now, waiters: &mut [u32]) -> Now
     ensures value { result ≡ delta_to n (lists [] [] waiters.old) }
     ensures waiters_after { lists [] [] waiters.new ≡ delta_in n (lists [] [] waiters.old) }
 {
-    let marks = n.marks;
-    let served = phases::serve_delta(marks, waiters);
-    turns::to_marks(n, Control::Turn, served)
+    let served = phases::serve_delta(n.marks, waiters);
+    n.to_marks(Control::Turn, served)
 }
 
-// The phase is over, and main goes on.
-fn close(n: Now, stage: u8) -> Now
-    ensures { result ≡ closed stage n }
+// The least due time.
+fn least_due(s: &State<'_>) -> Option<u32>
+    ensures { due_time result ≡ least_of (lists_of s.now) }
 {
-    let marks = n.marks;
-    Now {
-        control: Control::Runs(0),
-        time: n.time,
-        limit: n.limit,
-        stage: stage,
-        left: n.left,
-        chosen: n.chosen,
-        taken: n.taken,
-        marks: marks,
+    dues::least_due(s.pends, s.waits)
+}
+
+// Time: the phase is quiet where nothing is due, and over where the least due time is above the limit; then main goes on.
+pub fn time_phase(n: Now, s: &mut State<'_>) -> Now
+    ensures value { result ≡ timed_by (least_of (lists_of s.old)) n (lists_of s.old) }
+    ensures lists_after { lists_of s.new ≡ served_by (least_of (lists_of s.old)) n (lists_of s.old) }
+    ensures places_stay { s.new.places.now ≡ s.old.places.now }
+    ensures same_slices { SameSlices s.old s.new }
+{
+    let Some(t) = least_due(s) else {
+        return Now {
+            control: Control::Runs(0),
+            stage: Stage::Quiet,
+            ..n
+        };
+    };
+    if n.limit.is_some_and(|limit| limit < t) {
+        return Now {
+            control: Control::Runs(0),
+            stage: Stage::Limited,
+            ..n
+        };
     }
-}
-
-// The clock moves to t.
-fn move_to(n: Now, t: u32, marks: Marks) -> Now
-    ensures { result ≡ moved_to t marks n }
-{
+    let marks = phases::serve_time(n.marks, u64::from(t) + 1, s.pends, s.waits, s.waiters);
     Now {
         control: Control::Turn,
         time: t,
-        limit: n.limit,
-        stage: n.stage,
-        left: n.left,
-        chosen: n.chosen,
-        taken: n.taken,
-        marks: marks,
+        marks,
+        ..n
     }
 }
 
-// Time: the phase is quiet where nothing is due, and over where the least due time is above the limit.
-pub fn time_phase(n: Now, pends: &mut [u64], waits: &mut [u64], waiters: &mut [u32]) -> Now
-    ensures value { result ≡ timed_by (least_of (lists pends.old waits.old waiters.old)) n (lists pends.old waits.old waiters.old) }
-    ensures waiters_after { lists pends.new waits.new waiters.new ≡ served_by (least_of (lists pends.old waits.old waiters.old)) n (lists pends.old waits.old waiters.old) }
+// Why a run is over when main ends, by the stage.
+fn ending_of(stage: Stage) -> Ending
+    ensures { result ≡ phase_ending stage }
 {
-    let Due::At(t) = dues::least_due(pends, waits) else {
-        return close(n, 2);
-    };
-    if n.limit < t as u64 {
-        return close(n, 3);
+    match stage {
+        Stage::Before | Stage::During => Ending::NoStart,
+        Stage::Quiet => Ending::Quiet,
+        Stage::Limited => Ending::Limit,
     }
-    let marks = n.marks;
-    let served = phases::serve_time(marks, t as u64 + 1, pends, waits, waiters);
-    move_to(n, t, served)
-}
-
-// 11, 0 or 10, by the stage.
-fn end_number(stage: u8) -> u8
-    ensures { result ≡ phase_number stage }
-{
-    if stage < 2 {
-        return 11;
-    }
-    if stage == 2 {
-        return 0;
-    }
-    10
 }
 
 // The end of body b.
+#[tactic(auto, unfolding(turns::specs::Code::ends_to))]
 pub fn end_body(n: Now, b: usize, threads: usize) -> Now
     ensures { result ≡ ends_to threads b n }
 {
     if b == 0 {
-        return turns::to(n, Control::Over(end_number(n.stage), 0xff, 0));
+        return n.to(Control::Over(ending_of(n.stage), 0xff, 0));
     }
-    let marks = n.marks;
     if b <= threads {
-        return turns::to_marks(n, Control::Evaluation, marking::end(marks, b - 1));
+        return n.to_marks(Control::Evaluation, n.marks.end(b - 1));
     }
-    turns::to_marks(
-        n,
-        Control::UpdatePhase,
-        marking::finish(marks, b - 1 - threads),
-    )
+    n.to_marks(Control::UpdatePhase, n.marks.finish(b - 1 - threads))
 }

@@ -1,274 +1,208 @@
 // An instruction that is not plain.
 #![tactic(auto)]
 
-ghost use Rattle.std.specs.Prelude.{◌≡◌, true, [], ◌+◌, get_or, set, ltb};
+ghost use Rattle.std.specs.Prelude.{◌≡◌, get_or, set};
 ghost use Rattle.kernel.specs.Search.{nth};
 ghost use Rattle.frame.specs.Ops.{meaning_of};
-ghost use Rattle.marks.specs.Marks.{requested_by, suspended, resumed};
-ghost use Rattle.shows.specs.Shows.{lists, kept};
-ghost use Rattle.turns.specs.Code.{is_thread, did, is_past, wait_came, waited_on, waited_till, triggered_in, asked_in, adds_time, full, due_by, took_by, in_time, starts_by, marked, obeyed};
+ghost use Rattle.shows.specs.Shows.{kept};
+ghost use Rattle.turns.specs.Code.{lists_of, kept_of, SameSlices, is_thread, did_of, wait_came, waited_on, waited_till, adds_time, full, obeyed};
+ghost use Rattle.obey.specs.Tests.{input_by, may_ask, may_begin, has_room};
 
+use ending::Ending;
 use frame::Frame;
 use image::Image;
 use marks::Marks;
-use turns::{Done, Now, Obeyed};
+use turns::{Done, Now, Obeyed, Stage, State};
 
-// A cell; past the cells it is 0.
-fn cell_at(cells: &[u32], a: usize) -> u32
-    ensures { result ≡ get_or cells.now a 0 }
-{
-    if a < cells.len() {
-        return cells[a];
-    }
-    0
-}
-
-fn put_cell(cells: &mut [u32], d: usize, x: u32)
-    ensures { cells.new ≡ set cells.old d x }
-{
-    if d < cells.len() {
-        cells[d] = x;
-    }
-}
-
-// What came of an instruction, and the marks after it.
-fn done(came: Obeyed, marks: Marks) -> Done
-    ensures { result ≡ record { came = came; marks = marks } }
+// What came of an instruction that goes on, and the marks after it.
+fn goes(marks: Marks) -> Done
+    ensures { result ≡ record { came = Obeyed.Goes; marks = marks } }
 {
     Done {
-        came: came,
-        marks: marks,
+        came: Obeyed::Goes,
+        marks,
     }
 }
 
-// Op 03: d takes the next input.
-fn take_input(d: usize, taken: usize, marks: Marks, inputs: &[u32], cells: &mut [u32]) -> Done
-    ensures { did result.came (kept result.marks (lists [] [] [])) cells.new ≡ took_by (nth inputs.now taken) d (kept marks (lists [] [] [])) cells.old }
+// The next input.
+#[tactic(auto, using(crate::proofs::Arms::input_none, crate::proofs::Arms::input_some))]
+fn input_at(inputs: &[u32], taken: usize) -> Result<u32, Ending>
+    ensures { result ≡ input_by (nth inputs.now taken) }
 {
     if inputs.len() <= taken {
-        return done(Obeyed::Stops(19), marks);
+        return Err(Ending::NoInputLeft);
     }
-    put_cell(cells, d, inputs[taken]);
-    done(Obeyed::Took, marks)
+    Ok(inputs[taken])
 }
 
 // Body b is a thread.
 fn is_thread(b: usize, threads: usize) -> bool
     ensures { result ≡ is_thread threads b }
 {
-    if b == 0 {
-        return false;
-    }
-    b <= threads
+    1 <= b && b <= threads
 }
 
 // Op 60: wait for event d.
-fn wait_event(b: usize, d: usize, threads: usize, marks: Marks, waiters: &mut [u32]) -> Done
-    ensures { did result.came (kept result.marks (lists [] [] waiters.new)) [] ≡ did (wait_came threads b) (waited_on threads b d (kept marks (lists [] [] waiters.old))) [] }
+#[tactic(auto, unfolding(turns::specs::Code::waited_on))]
+fn wait_event(b: usize, d: usize, threads: usize, marks: Marks, s: &mut State<'_>) -> Done
+    ensures came { result.came ≡ wait_came threads b }
+    ensures kept_after { kept result.marks (lists_of s.new) ≡ waited_on threads b d (kept marks (lists_of s.old)) }
+    ensures places_stay { s.new.places.now ≡ s.old.places.now }
+    ensures same_slices { SameSlices s.old s.new }
 {
     if is_thread(b, threads) {
-        return done(Obeyed::Waits, waits::wait_event(marks, waiters, b - 1, d));
+        return Done {
+            came: Obeyed::Waits,
+            marks: waits::wait_event(marks, s.waiters, b - 1, d),
+        };
     }
-    done(Obeyed::Goes, marks)
+    goes(marks)
 }
 
-// Whether so many events and threads are too few for the due times to be all there can be. Then they need not be counted.
-fn has_room(events: usize, threads: usize) -> bool
-    ensures { result ≡ ltb (events + threads) 48 }
+// Op 61: wait for the moment q.
+#[tactic(auto, unfolding(turns::specs::Code::waited_till))]
+fn wait_time(b: usize, q: u64, threads: usize, marks: Marks, s: &mut State<'_>) -> Done
+    ensures came { result.came ≡ wait_came threads b }
+    ensures kept_after { kept result.marks (lists_of s.new) ≡ waited_till threads b q (kept marks (lists_of s.old)) }
+    ensures places_stay { s.new.places.now ≡ s.old.places.now }
+    ensures same_slices { SameSlices s.old s.new }
 {
-    if threads < Image::DUE_TIMES {
-        return events < Image::DUE_TIMES - threads;
+    if is_thread(b, threads) {
+        return Done {
+            came: Obeyed::Waits,
+            marks: waits::wait_time(marks, s.waits, b - 1, q),
+        };
     }
-    false
+    goes(marks)
 }
 
 // Whether there is no room for the due time q that is to be added.
-fn is_full(adds: bool, q: u64, pends: &[u64], waits: &[u64]) -> bool
-    ensures { result ≡ full adds q (lists pends.now waits.now []) }
+#[tactic(auto, using(crate::proofs::Arms::full_few))]
+fn is_full(adds: bool, q: u64, s: &State<'_>) -> bool
+    ensures { result ≡ full adds q (lists_of s.now) }
 {
     if q == 0 {
         return false;
     }
-    if has_room(pends.len(), waits.len()) {
+    // So few events and threads leave room, and need not be counted.
+    if s.pends.len() + s.waits.len() < Image::DUE_TIMES {
         return false;
     }
     if adds {
-        return Image::DUE_TIMES <= dues::count_times(pends, waits);
+        return Image::DUE_TIMES <= dues::count_times(s.pends, s.waits);
     }
     false
 }
 
-// Op 61: wait for the time in a.
-fn wait_time(
-    b: usize,
-    q: u64,
-    threads: usize,
-    marks: Marks,
-    pends: &[u64],
-    waits: &mut [u64],
-) -> Done
-    ensures { did result.came (kept result.marks (lists pends.now waits.new [])) [] ≡ due_by true q (kept marks (lists pends.now waits.old [])) [] (did (wait_came threads b) (waited_till threads b q (kept marks (lists pends.now waits.old []))) []) }
+// Whether a due time q can be asked for.
+fn has_room(adds: bool, q: u64, s: &State<'_>) -> Result<(), Ending>
+    ensures { result ≡ has_room adds q (lists_of s.now) }
 {
     if dues::LAST_TIME < q {
-        return done(Obeyed::Stops(17), marks);
+        return Err(Ending::TooLate);
     }
-    if is_full(true, q, pends, waits) {
-        return done(Obeyed::Stops(23), marks);
+    if is_full(adds, q, s) {
+        return Err(Ending::TooManyDueTimes);
     }
-    if is_thread(b, threads) {
-        return done(Obeyed::Waits, waits::wait_time(marks, waits, b - 1, q));
-    }
-    done(Obeyed::Goes, marks)
+    Ok(())
 }
 
 // Main after the phase may ask nothing of the kernel.
-fn is_past(b: usize, stage: u8) -> bool
-    ensures { result ≡ is_past b stage }
+fn may_ask(b: usize, stage: Stage) -> Result<(), Ending>
+    ensures { result ≡ may_ask b stage }
 {
-    if b == 0 {
-        return 2 <= stage;
+    if b == 0 && matches!(stage, Stage::Quiet | Stage::Limited) {
+        return Err(Ending::OutOfPhase);
     }
-    false
+    Ok(())
 }
 
-// Op 62: notify event d at once.
-fn notify(
-    b: usize,
-    stage: u8,
-    d: usize,
-    marks: Marks,
-    pends: &mut [u64],
-    waiters: &mut [u32],
-) -> Done
-    ensures { did result.came (kept result.marks (lists pends.new [] waiters.new)) [] ≡ in_time b stage (kept marks (lists pends.old [] waiters.old)) [] (did Obeyed.Goes (triggered_in d (kept marks (lists pends.old [] waiters.old))) []) }
+// Main begins the phase once.
+fn may_begin(stage: Stage) -> Result<(), Ending>
+    ensures { result ≡ may_begin stage }
 {
-    if is_past(b, stage) {
-        return done(Obeyed::Stops(18), marks);
-    }
-    done(Obeyed::Goes, waits::trigger(marks, pends, waiters, d))
+    let Stage::Before = stage else {
+        return Err(Ending::OutOfPhase);
+    };
+    Ok(())
 }
 
 // Whether event e pends for nothing, so that a due time for it is one more.
-fn adds_time(marks: Marks, pends: &[u64], e: usize) -> bool
-    ensures { result ≡ adds_time e (kept marks (lists pends.now [] [])) }
+fn adds_time(marks: Marks, e: usize, s: &State<'_>) -> bool
+    ensures { result ≡ adds_time e (kept marks (lists_of s.now)) }
 {
-    if sets::has(marks.pending, e) {
-        return false;
-    }
-    if e < pends.len() {
-        return dues::LAST_TIME < pends[e];
-    }
-    false
+    !sets::has(marks.pending, e) && e < s.pends.len() && dues::LAST_TIME < s.pends[e]
 }
 
-// Op 63: notify event d at the due time q.
-fn notify_after(
-    b: usize,
-    stage: u8,
-    d: usize,
-    q: u64,
-    marks: Marks,
-    pends: &mut [u64],
-    waits: &[u64],
-) -> Done
-    ensures { did result.came (kept result.marks (lists pends.new waits.now [])) [] ≡ in_time b stage (kept marks (lists pends.old waits.now [])) [] (due_by (adds_time d (kept marks (lists pends.old waits.now []))) q (kept marks (lists pends.old waits.now [])) [] (did Obeyed.Goes (asked_in q d (kept marks (lists pends.old waits.now []))) [])) }
-{
-    if is_past(b, stage) {
-        return done(Obeyed::Stops(18), marks);
-    }
-    if dues::LAST_TIME < q {
-        return done(Obeyed::Stops(17), marks);
-    }
-    if is_full(adds_time(marks, pends, d), q, pends, waits) {
-        return done(Obeyed::Stops(23), marks);
-    }
-    done(Obeyed::Goes, waits::notify_after(marks, pends, d, q))
-}
-
-// Op 64: request update d.
-fn request(b: usize, stage: u8, d: usize, marks: Marks) -> Done
-    ensures { did result.came (kept result.marks (lists [] [] [])) [] ≡ in_time b stage (kept marks (lists [] [] [])) [] (did Obeyed.Goes (marked (requested_by d) (kept marks (lists [] [] []))) []) }
-{
-    if is_past(b, stage) {
-        return done(Obeyed::Stops(18), marks);
-    }
-    done(Obeyed::Goes, marking::request(marks, d))
-}
-
-// Op 65: suspend thread d.
-fn suspend(b: usize, stage: u8, d: usize, marks: Marks) -> Done
-    ensures { did result.came (kept result.marks (lists [] [] [])) [] ≡ in_time b stage (kept marks (lists [] [] [])) [] (did Obeyed.Goes (marked (suspended d) (kept marks (lists [] [] []))) []) }
-{
-    if is_past(b, stage) {
-        return done(Obeyed::Stops(18), marks);
-    }
-    done(Obeyed::Goes, marking::suspend(marks, d))
-}
-
-// Op 66: resume thread d.
-fn resume(b: usize, stage: u8, d: usize, marks: Marks) -> Done
-    ensures { did result.came (kept result.marks (lists [] [] [])) [] ≡ in_time b stage (kept marks (lists [] [] [])) [] (did Obeyed.Goes (marked (resumed d) (kept marks (lists [] [] []))) []) }
-{
-    if is_past(b, stage) {
-        return done(Obeyed::Stops(18), marks);
-    }
-    done(Obeyed::Goes, marking::resume(marks, d))
-}
-
-// Ops 67 and 68: start, once.
-fn begin(stage: u8, limit: u64, marks: Marks) -> Done
-    ensures { did result.came (kept result.marks (lists [] [] [])) [] ≡ starts_by stage limit (kept marks (lists [] [] [])) [] }
-{
-    if stage == 0 {
-        return done(Obeyed::Begins(limit), marks);
-    }
-    done(Obeyed::Stops(18), marks)
-}
-
-// An instruction of body b that is not plain: the one decision over the other op numbers.
+// An instruction of body b that is not plain: the one decision over the other op numbers. The count of threads is given beside the state,
+// since `obeyed` is over any.
+#[tactic(auto, using(crate::proofs::Decides::obey_other), unfolding(turns::specs::Code::obeyed, frame::specs::Ops::meaning_of))]
 pub fn obey(
     f: Frame,
     b: usize,
     n: Now,
     threads: usize,
     inputs: &[u32],
-    pends: &mut [u64],
-    waits: &mut [u64],
-    waiters: &mut [u32],
+    s: &mut State<'_>,
     cells: &mut [u32],
-) -> Done
-    ensures { did result.came (kept result.marks (lists pends.new waits.new waiters.new)) cells.new ≡ obeyed threads b f n inputs.now (kept n.marks (lists pends.old waits.old waiters.old)) cells.old (meaning_of f.op) }
+) -> Result<Done, Ending>
+    ensures value { did_of result n s.new cells.new ≡ obeyed threads b f n inputs.now (kept_of n s.old) cells.old (meaning_of f.op) }
+    ensures places_stay { s.new.places.now ≡ s.old.places.now }
+    ensures same_slices { SameSlices s.old s.new }
 {
-    let op = f.op;
     let d = f.d as usize;
     let a = f.a as usize;
     let m = n.marks;
-    match op {
-        0x03 => take_input(d, n.taken, m, inputs, cells),
-        0x60 => wait_event(b, d, threads, m, waiters),
-        0x61 => wait_time(
-            b,
-            dues::ask(n.time, cell_at(cells, a)),
-            threads,
-            m,
-            pends,
-            waits,
-        ),
-        0x62 => notify(b, n.stage, d, m, pends, waiters),
-        0x63 => notify_after(
-            b,
-            n.stage,
-            d,
-            dues::ask(n.time, cell_at(cells, a)),
-            m,
-            pends,
-            waits,
-        ),
-        0x64 => request(b, n.stage, d, m),
-        0x65 => suspend(b, n.stage, d, m),
-        0x66 => resume(b, n.stage, d, m),
-        0x67 => begin(n.stage, f.imm as u64, m),
-        0x68 => begin(n.stage, 4294967296, m),
-        _ => done(Obeyed::Stops(4), m),
+    match f.op {
+        0x03 => {
+            slots::put(cells, d, input_at(inputs, n.taken)?);
+            Ok(Done {
+                came: Obeyed::Took,
+                marks: m,
+            })
+        }
+        0x60 => Ok(wait_event(b, d, threads, m, s)),
+        0x61 => {
+            let q = dues::ask(n.time, slots::get_or(cells, a, 0));
+            has_room(true, q, s)?;
+            Ok(wait_time(b, q, threads, m, s))
+        }
+        0x62 => {
+            may_ask(b, n.stage)?;
+            Ok(goes(waits::trigger(m, s.pends, s.waiters, d)))
+        }
+        0x63 => {
+            may_ask(b, n.stage)?;
+            let q = dues::ask(n.time, slots::get_or(cells, a, 0));
+            has_room(adds_time(m, d, s), q, s)?;
+            Ok(goes(waits::notify_after(m, s.pends, d, q)))
+        }
+        0x64 => {
+            may_ask(b, n.stage)?;
+            Ok(goes(m.request(d)))
+        }
+        0x65 => {
+            may_ask(b, n.stage)?;
+            Ok(goes(m.suspend(d)))
+        }
+        0x66 => {
+            may_ask(b, n.stage)?;
+            Ok(goes(m.resume(d)))
+        }
+        0x67 => {
+            may_begin(n.stage)?;
+            Ok(Done {
+                came: Obeyed::Begins(Some(f.imm)),
+                marks: m,
+            })
+        }
+        0x68 => {
+            may_begin(n.stage)?;
+            Ok(Done {
+                came: Obeyed::Begins(None),
+                marks: m,
+            })
+        }
+        _ => Err(Ending::UnknownOp),
     }
 }

@@ -7,12 +7,14 @@ use native.Mathlib.Nat.{not-suc-le-zero}
 use native.Mathlib.Omega.{arith}
 use lib.ListN.{get_or, set}
 use lib.Dec.{eqb}
-use lib.Bits.{and_le_l}
 use borrow.Author.Tests.{le-ltb, ne_eqb, eqb-false}
 use Rattle.std.specs.Prelude.{if◌then◌else◌}
 use Rattle.laws.specs.Choice.{true_not_false}
 use Rattle.sets.specs.Sets.{has, single, minus, without, least_of}
-use Rattle.sets.specs.Laws.{has_zero, has_without, least_in_lem, least_first}
+use Rattle.std.proofs.Common.{Some}
+use Rattle.sets.specs.Members.{TakesLeast}
+use Rattle.sets.specs.declared.Members.{Members}
+use Rattle.sets.specs.Laws.{has_zero, has_without, least_in_lem, least_first, minus_fits}
 use Rattle.dues.specs.Laws.{by_size}
 use Rattle.phases.specs.Phases.{freed_to, freed_by, cleared_to, cleared_by}
 use Rattle.phases.specs.Laws.{cleared_at}
@@ -42,6 +44,7 @@ cleared_next es ws i e = rw e
 
 -- what is left after the first `upto` numbers of the set es, and what they made of the waiting threads and the waiters
 pub record Freeing (es : ℕ) (ws₀ : List ℕ) (x₀ left still : ℕ) (ws : List ℕ) : Type 0 where
+  pub fits : left < 4294967296
   pub upto : ℕ
   pub most : upto ≤ 32
   pub gone : (i : ℕ) → i < upto → has left i ≡ false
@@ -50,10 +53,10 @@ pub record Freeing (es : ℕ) (ws₀ : List ℕ) (x₀ left still : ℕ) (ws : L
   pub cleared : ws ≡ cleared_to es upto ws₀
 
 module _ (es : ℕ) (ws₀ : List ℕ) (x₀ : ℕ) where
-  pub freeing_starts : Freeing es ws₀ x₀ es x₀ ws₀
+  pub freeing_starts : (s t : Members) → es < 4294967296 → t ≡ record { left = es } → s ≡ t → Freeing es ws₀ x₀ s.left x₀ ws₀
   unfolding freed_to cleared_to
-  freeing_starts =
-      record { upto = 0; most = omega arith; gone = λ i l. absurd (not-suc-le-zero l); ahead = λ i l k. refl; freed = refl; cleared = refl }
+  freeing_starts s t h e f =
+      rw (f, e) (record { fits = h; upto = 0; most = omega arith; gone = λ i l. absurd (not-suc-le-zero l); ahead = λ i l k. refl; freed = refl; cleared = refl })
 
   module _ (left still : ℕ) (ws : List ℕ) (F : Freeing es ws₀ x₀ left still ws) where
     -- none of es lies between what is done and n
@@ -113,8 +116,10 @@ module _ (es : ℕ) (ws₀ : List ℕ) (x₀ : ℕ) where
           rest_at i k ∙ rw n (F.ahead i (omega (arith, not_done)) k)
 
       least_freed : Freeing es ws₀ x₀ (without left (least_of left)) (minus still (get_or ws (least_of left) 0)) (set ws (least_of left) 0)
+      unfolding without
       least_freed =
           record {
+            fits = minus_fits left (single (least_of left)) F.fits;
             upto = suc (least_of left);
             most = below_32;
             gone = rest_gone;
@@ -127,22 +132,9 @@ module _ (es : ℕ) (ws₀ : List ℕ) (x₀ : ℕ) where
                 ∙ cleared_next es ws₀ (least_of left) is_event;
           }
 
-      least_less : without left (least_of left) < left
-      unfolding without minus
-      least_less =
-          let h : without left (least_of left) ≤ left = and_le_l left (4294967295 - single (least_of left) % 4294967296) in
-          let n : without left (least_of left) ≡ left → ⊥ = λ e. true_not_false (sym is_left ∙ ap (λ s. has s (least_of left)) (sym e) ∙ rest_gone (least_of left) (omega arith)) in
-          omega arith
-
   module _ (left still e r l : ℕ) (ws t : List ℕ) where
-    pub freeing_turn : Freeing es ws₀ x₀ left still ws → left < 4294967296 → (left ≡ 0 → ⊥) → e ≡ least_of left → r ≡ minus still (get_or ws e 0) → t ≡ set ws e 0 → l ≡ without left e → Freeing es ws₀ x₀ l r t
-    freeing_turn F h n i f c w =
+    pub freeing_turn : Freeing es ws₀ x₀ left still ws → TakesLeast left (Some e) l → r ≡ minus still (get_or ws e 0) → t ≡ set ws e 0 → Freeing es ws₀ x₀ l r t
+    freeing_turn F (n, i, w) f c =
+        let h : left < 4294967296 = F.fits in
         let k : left % 4294967296 ≡ left = omega arith in
         rw (w, f, c, i) (least_freed left still ws F (rw k n))
-
-    pub freeing_less : Freeing es ws₀ x₀ left still ws → left < 4294967296 → (left ≡ 0 → ⊥) → e ≡ least_of left → l ≡ without left e → l < left
-    freeing_less F h n i w =
-        let k : left % 4294967296 ≡ left = omega arith in
-        rw (w, i) (least_less left still ws F (rw k n))
-
-pub ruleset freeing_laws = (freeing_starts, freeing_turn, freeing_less, freeing_end, clearing_end)

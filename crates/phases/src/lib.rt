@@ -13,11 +13,8 @@ fn free_all(waiting: u32, events: u32, waiters: &mut [u32]) -> u32
     ensures waiters_after { waiters.new ≡ cleared_by events waiters.old }
 {
     let mut still = waiting;
-    let mut left = events;
-    while left != 0 {
-        let e = sets::least(left);
+    for e in sets::each(events) {
         still = waits::free_on(still, waiters, e);
-        left = sets::without(left, e);
     }
     still
 }
@@ -27,15 +24,13 @@ pub fn serve_delta(m: Marks, waiters: &mut [u32]) -> Marks
     ensures value { result ≡ served_delta waiters.old m }
     ensures waiters_after { waiters.new ≡ cleared_by m.pending waiters.old }
 {
-    let waiting = free_all(sets::minus(m.waiting, m.delta), m.pending, waiters);
     Marks {
-        waiting: waiting,
+        waiting: free_all(sets::minus(m.waiting, m.delta), m.pending, waiters),
         delta: 0,
         suspended: sets::minus(m.suspended, m.resuming),
         resuming: 0,
-        ended: m.ended,
-        requested: m.requested,
         pending: 0,
+        ..m
     }
 }
 
@@ -54,6 +49,8 @@ pub fn serve_time(
 {
     let threads = dues::take_due(waits, q);
     let events = dues::take_due(pends, q);
-    let still = free_all(sets::minus(m.waiting, threads), events, waiters);
-    marking::with_waiting(m, still)
+    Marks {
+        waiting: free_all(sets::minus(m.waiting, threads), events, waiters),
+        ..m
+    }
 }

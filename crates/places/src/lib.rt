@@ -1,33 +1,15 @@
 // A place for each body in a lent slice: where it stands, or the line of its first instruction.
 #![tactic(auto)]
 
-ghost use Rattle.std.specs.Prelude.{◌≡◌, ◌+◌, ◌-◌, get_or, set};
+ghost use Rattle.std.specs.Prelude.{◌≡◌, ◌+◌, ◌-◌, get_or};
 
-// Body b stands at place p.
-pub fn put_place(places: &mut [usize], b: usize, p: usize)
-    ensures { places.new ≡ set places.old b p }
-{
-    if b < places.len() {
-        places[b] = p;
-    }
-}
-
-// The place of body b.
-pub fn place_of(places: &[usize], b: usize) -> usize
-    ensures { result ≡ get_or places.now b 0 }
-{
-    if b < places.len() {
-        return places[b];
-    }
-    0
-}
-
-// And of the one after b.
+// The place of the body after b.
+#[tactic(auto, using(laws::specs::Lists::none_past))]
 pub fn place_after(places: &[usize], b: usize) -> usize
     ensures { result ≡ get_or places.now (b + 1) 0 }
 {
     if b < places.len() {
-        return place_of(places, b + 1);
+        return slots::get_or(places, b + 1, 0);
     }
     0
 }
@@ -36,8 +18,5 @@ pub fn place_after(places: &[usize], b: usize) -> usize
 pub fn distance(from: usize, to: usize) -> usize
     ensures { result ≡ to - from }
 {
-    if to < from {
-        return 0;
-    }
-    to - from
+    to.saturating_sub(from)
 }

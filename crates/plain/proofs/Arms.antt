@@ -16,27 +16,34 @@ use Rattle.frame.specs.Ops.{Meaning, takes_imm, takes_input, one, two, may, load
 use Rattle.kernel.specs.Kernel.{nothing}
 use Rattle.kernel.specs.Effect.{sets, does, stop_if, sets_to, goes_if, effect}
 use Rattle.effect.specs.Parts.{put_of, jump_of}
+use Rattle.ending.specs.declared.Ending.TheVariants.{AssertFailed, AssumeFailed, OutOfRegion}
+use Rattle.ending.specs.Ending.{ending_of}
 use Rattle.effect.specs.declared.Eff.{Eff}
 use Rattle.effect.specs.declared.Eff.TheVariants.{Put, Next, Go, Stop, Leave}
 use Rattle.plain.specs.Plain.{is_plain, seen, as_eff, plain_effect, stands, Comes, load_of, store_of, hold_of}
 
 -- Single functions
 module _ (i : Frame) (cs : List ℕ) (v x : ℕ) (e : x ≡ v) where
-  pub load_out : i.b ≤ x → Stop 16 ≡ load_of i v cs
+  pub load_out : i.b ≤ x → Stop OutOfRegion ≡ load_of i v cs
   load_out h = rw (← e, le-leb i.b x h)
 
   pub load_in : (y : ℕ) → x < i.b → y ≡ get_or cs (i.imm + x) 0 → Put i.d y ≡ load_of i v cs
   load_in y h q = rw (← e, lt-leb i.b x h, q)
 
-  pub store_out : i.b ≤ x → Stop 16 ≡ store_of i v cs
+  pub store_out : i.b ≤ x → Stop OutOfRegion ≡ store_of i v cs
   store_out h = rw (← e, le-leb i.b x h)
 
   pub store_in : (y : ℕ) → x < i.b → y ≡ get_or cs i.d 0 → Put (i.imm + x) y ≡ store_of i v cs
   store_in y h q = rw (← e, lt-leb i.b x h, q)
 
 module _ (x : ℕ) where
-  pub hold_fails : (n : ℕ) → x ≡ 0 → Stop n ≡ hold_of x n
-  hold_fails n e = rw (eq-eqb x 0 e)
+  pub assert_fails : (op : ℕ) → x ≡ 0 → op ≡ 0x50 → Stop AssertFailed ≡ hold_of x (12 + (op - 0x50))
+  assert_fails op e q = rw (eq-eqb x 0 e, q)
+
+  pub assume_fails : (op : ℕ) → x ≡ 0 → 0x50 ≤ op → op ≤ 0x51 → (op ≡ 0x50 → ⊥) → Stop AssumeFailed ≡ hold_of x (12 + (op - 0x50))
+  assume_fails op e a b n =
+      let q : op ≡ 0x51 = omega arith in
+      rw (eq-eqb x 0 e, q)
 
   pub hold_passes : (n : ℕ) → (x ≡ 0 → ⊥) → Next ≡ hold_of x n
   hold_passes n e = rw (ne_eqb x 0 e)
@@ -52,7 +59,7 @@ module _ (i : Frame) (cs : List ℕ) where
   is_goto e place = rw e
 
   module _ (x : ℕ) (g : x ≡ get_or cs i.a 0) where
-    if_out : (place : ℕ) (z : Bool) (d v : ℕ) → stands place (if z then Stop 16 else Put d v) ≡ as_eff place (stop_if z 16 (sets d v))
+    if_out : (place : ℕ) (z : Bool) (d v : ℕ) → stands place (if z then Stop OutOfRegion else Put d v) ≡ as_eff place (stop_if z 16 (sets d v))
     if_out place true d v = refl
     if_out place false d v = refl
 
@@ -72,7 +79,7 @@ module _ (i : Frame) (cs : List ℕ) where
     unfolding meaning_of effect plain_effect
     is_jump f e q place = rw (e, q, g) (by_zero place (get_or cs i.a 0))
 
-    if_holds : (place : ℕ) (z : Bool) (n : ℕ) → stands place (if z then Stop n else Next) ≡ as_eff place (stop_if z n (does nothing))
+    if_holds : (place : ℕ) (z : Bool) (n : ℕ) → stands place (if z then Stop (ending_of n) else Next) ≡ as_eff place (stop_if z n (does nothing))
     if_holds place true n = refl
     if_holds place false n = refl
 

@@ -11,6 +11,8 @@ use lib.ListN.{length, get_or, set, take, drop, length-drop}
 use lib.Seq.{length-take-le, get_or-take, get_or-drop}
 use Rattle.frame.specs.declared.Frame.{Frame}
 use Rattle.frame.specs.Fields.{fields}
+use Rattle.ending.specs.declared.Ending.{Ending}
+use Rattle.ending.specs.declared.Ending.TheVariants.{UnknownOp, NoBudgetLeft}
 use Rattle.effect.specs.declared.Eff.{Eff}
 use Rattle.effect.specs.declared.Eff.TheVariants.{Put, Next, Go, Stop, Leave}
 use Rattle.plain.specs.declared.End.TheVariants.{Ended, Left, Stopped}
@@ -26,11 +28,11 @@ module _ (t : List ℕ) (len : ℕ) (o : Out) (p x : ℕ) (cs : List ℕ) (inv :
       by zero e = rw (le-ltb p len h) at e
       by (suc x) e = rw (le-ltb p len h) at e
 
-  pub loop_spent : p < len → x ≡ 0 → out (Stopped 22) p x cs ≡ o
+  pub loop_spent : p < len → x ≡ 0 → out (Stopped NoBudgetLeft) p x cs ≡ o
   unfolding plain
   loop_spent h z = by x z inv
     where
-      by : (x : ℕ) → x ≡ 0 → plain x t 0 len p cs ≡ o → out (Stopped 22) p x cs ≡ o
+      by : (x : ℕ) → x ≡ 0 → plain x t 0 len p cs ≡ o → out (Stopped NoBudgetLeft) p x cs ≡ o
       by zero z e = rw (lt-ltb p len h) at e
       by (suc x) z e = absurd (omega arith)
 
@@ -45,7 +47,7 @@ module _ (t : List ℕ) (len : ℕ) (o : Out) (p x : ℕ) (cs : List ℕ) (inv :
             let m : suc x - 1 ≡ x = omega arith in
             rw m (rw (lt-ltb p len h) at e)
 
-    pub loop_stops : (n : ℕ) → f ≡ Stop n → out (Stopped n) p x cs ≡ o
+    pub loop_stops : (n : Ending) → f ≡ Stop n → out (Stopped n) p x cs ≡ o
     loop_stops n e = turned (Stop n) (rw e at (g p))
 
     pub loop_leaves : f ≡ Leave → out Left p x cs ≡ o
@@ -63,7 +65,7 @@ module _ (t : List ℕ) (len : ℕ) (o : Out) (p x : ℕ) (cs : List ℕ) (inv :
 pub ruleset loop_laws = (loop_ended, loop_spent, loop_stops, loop_leaves, loop_nexts, loop_goes, loop_puts)
 
 -- where the body does not lie in the table, or the cells are too few
-module _ (budget : ℕ) (t : List ℕ) (base len from : ℕ) (cs : List ℕ) (r : Ran) (e : r ≡ record { end = Stopped 4; place = from; left = budget }) where
+module _ (budget : ℕ) (t : List ℕ) (base len from : ℕ) (cs : List ℕ) (r : Ran) (e : r ≡ record { end = Stopped UnknownOp; place = from; left = budget }) where
   abbrev Is : Type 0
   Is = record { ran = r; cells = cs } ≡ run_plain budget t base len from cs
 
@@ -131,3 +133,5 @@ module _ (budget : ℕ) (t : List ℕ) (base len from : ℕ) (cs : List ℕ) (a 
       let e : (base + len) - base ≡ len = omega arith in
       let g : o ≡ plain budget (take len (drop base t)) 0 len from cs = rw (e, same_length t base len (omega arith)) at q in
       rw (le-leb (base + len) (length t) (omega arith), le-leb len 1024 a, le-leb 256 (length cs) d) (g ∙ in_body t base len (omega arith) budget from cs)
+
+pub ruleset able_laws = (plain_long, plain_short, plain_past, plain_narrow, body_short, plain_runs)

@@ -11,6 +11,8 @@ use Rattle.std.proofs.Math.Dec.{ltb}
 use Rattle.std.proofs.Math.ListN.{length}
 use Rattle.laws.specs.Choice.{and_left, and_right}
 use Rattle.frame.specs.Fields.{fields}
+use Rattle.ending.specs.declared.Ending.{Ending}
+use Rattle.ending.specs.declared.Ending.TheVariants.{UnknownOp, NoBudgetLeft}
 use Rattle.effect.specs.declared.Eff.{Eff}
 use Rattle.effect.specs.declared.Eff.TheVariants.{Put, Next, Go, Stop, Leave}
 use Rattle.plain.specs.declared.End.TheVariants.{Ended, Left, Stopped}
@@ -21,7 +23,7 @@ unlike e =
     let z : ◌≡◌ {A = ℕ} 0 1 = cc in
     absurd (omega arith)
 
-unlike_stop : {A : Type 0} (n : ℕ) → Stopped n ≡ Left → A
+unlike_stop : {A : Type 0} (n : Ending) → Stopped n ≡ Left → A
 unlike_stop n e =
     let z : ◌≡◌ {A = ℕ} 0 1 = cc in
     absurd (omega arith)
@@ -31,8 +33,8 @@ module _ (t : List ℕ) (base len : ℕ) where
   unfolding plain
   left_due zero p cs = go (ltb p len) refl
     where
-      go : (z : Bool) → ltb p len ≡ z → (when z (λ _. out (Stopped 22) p 0 cs) (out Ended p 0 cs)).ran.end ≡ Left → (when z (λ _. out (Stopped 22) p 0 cs) (out Ended p 0 cs)).ran.place < len
-      go true h e = unlike_stop 22 e
+      go : (z : Bool) → ltb p len ≡ z → (when z (λ _. out (Stopped NoBudgetLeft) p 0 cs) (out Ended p 0 cs)).ran.end ≡ Left → (when z (λ _. out (Stopped NoBudgetLeft) p 0 cs) (out Ended p 0 cs)).ran.place < len
+      go true h e = unlike_stop NoBudgetLeft e
       go false h e = unlike e
   left_due (suc x) p cs = go (ltb p len) refl (λ q ds. left_due x q ds)
     where
@@ -56,10 +58,10 @@ module _ (t : List ℕ) (base len : ℕ) where
   unfolding run_plain
   left_inside x p cs o e q = go (able t base len cs) refl (e)
     where
-      go : (z : Bool) → able t base len cs ≡ z → o ≡ when z (λ _. plain x t base len p cs) (out (Stopped 4) p x cs) → Inside o.ran.place
+      go : (z : Bool) → able t base len cs ≡ z → o ≡ when z (λ _. plain x t base len p cs) (out (Stopped UnknownOp) p x cs) → Inside o.ran.place
       go true h f =
           let d : o.ran.place < len = rw f (left_due x p cs (ap (λ (y : Out). y.ran.end) (sym f) ∙ q)) in
           let a : base + len ≤ length t = leb-true (base + len) (length t) (and_left (leb (base + len) (length t)) _ h) in
           let b : len ≤ 1024 = leb-true len 1024 (and_left (leb len 1024) (leb 256 (length cs)) (and_right (leb (base + len) (length t)) _ h)) in
           record { line = omega arith; place = omega arith }
-      go false h f = unlike_stop 4 (ap (λ (y : Out). y.ran.end) (sym f) ∙ q)
+      go false h f = unlike_stop UnknownOp (ap (λ (y : Out). y.ran.end) (sym f) ∙ q)

@@ -7,6 +7,8 @@ use Rattle.kernel.specs.Search.{none}
 use Rattle.kernel.specs.Design.{main}
 use Rattle.kernel.specs.Kernel.{Deed, nothing, reads, notifies, asks, waits, requests, suspends, resumes, kernel}
 use Rattle.kernel.specs.Effect.{View, Effect, stops, sets, takes, goes, does, begins, effect}
+use Rattle.ending.specs.declared.Ending.TheVariants.{UnknownOp, OutOfRegion, NoBudgetLeft}
+use Rattle.ending.specs.Ending.{ending_of}
 use Rattle.effect.specs.declared.Eff.{Eff}
 use Rattle.effect.specs.declared.Eff.TheVariants.{Put, Next, Go, Stop, Leave}
 use Rattle.plain.specs.declared.End.{End}
@@ -56,7 +58,7 @@ abbrev pub as_eff : (place : ℕ) → Effect → Eff
 as_eff place (sets d x) = Put d x
 as_eff place (goes p) = Go p
 as_eff place (does x) = after_deed place x
-as_eff place (stops n) = Stop n
+as_eff place (stops n) = Stop (ending_of n)
 as_eff place (takes d x) = Leave
 as_eff place (begins l) = Leave
 
@@ -78,13 +80,13 @@ Comes e i cells = (place : ℕ) → stands place e ≡ plain_effect i place cell
 
 -- parts of the decision: place v of a region read and written; assert and assume
 abbrev pub load_of : Frame → (v : ℕ) → List ℕ → Eff
-load_of i v cs = if leb i.b v then Stop 16 else Put i.d (get_or cs (i.imm + v) 0)
+load_of i v cs = if leb i.b v then Stop OutOfRegion else Put i.d (get_or cs (i.imm + v) 0)
 
 abbrev pub store_of : Frame → (v : ℕ) → List ℕ → Eff
-store_of i v cs = if leb i.b v then Stop 16 else Put (i.imm + v) (get_or cs i.d 0)
+store_of i v cs = if leb i.b v then Stop OutOfRegion else Put (i.imm + v) (get_or cs i.d 0)
 
 abbrev pub hold_of : (x n : ℕ) → Eff
-hold_of x n = if eqb x 0 then Stop n else Next
+hold_of x n = if eqb x 0 then Stop (ending_of n) else Next
 
 -- how a run of plain instructions ends, and the cells then
 pub record Out : Type 0 where
@@ -111,7 +113,7 @@ after Leave rest place left cells = out Left place left cells
 -- "22: an instruction is due and the budget is used up"
 unfoldable pub plain : (left : ℕ) → List ℕ → (base len place : ℕ) → List ℕ → Out
 plain zero table base len place cells =
-    when (ltb place len) (λ _. out (Stopped 22) place 0 cells) (out Ended place 0 cells)
+    when (ltb place len) (λ _. out (Stopped NoBudgetLeft) place 0 cells) (out Ended place 0 cells)
 plain (suc n) table base len place cells =
     when (ltb place len)
     (λ _. after (plain_effect (fields (get_or table (base + place) 0)) place cells) (plain n table base len) place (suc n) cells)
@@ -124,4 +126,4 @@ able table base len cells = leb (base + len) (length table) && (leb len 1024 && 
 -- and where that is not so, which no judged table brings about, the run stops with 4
 unfoldable pub run_plain : (budget : ℕ) → List ℕ → (base len from : ℕ) → List ℕ → Out
 run_plain budget table base len from cells =
-    when (able table base len cells) (λ _. plain budget table base len from cells) (out (Stopped 4) from budget cells)
+    when (able table base len cells) (λ _. plain budget table base len from cells) (out (Stopped UnknownOp) from budget cells)

@@ -1,14 +1,16 @@
 -- Laws of the printed text, as the code writes it. Assumes nothing.
-use Prim.Native.Nat.{ℕ, suc, ◌+◌, ◌-◌, ◌*◌, ◌/◌, ◌≤◌, ◌<◌}
-use mathlib.Core.Path.{◌≡◌, refl, sym, ap, ◌∙◌}
-use mathlib.Core.Bool.{Bool, true, false}
-use mathlib.Core.List.{List, [], ◌∷◌, ◌++◌, append-nil}
+use Prim.Native.Nat.{ℕ, suc, ◌+◌, ◌*◌, ◌/◌, ◌≤◌, ◌<◌}
+use mathlib.Core.Path.{◌≡◌, refl, sym, ◌∙◌}
+use mathlib.Core.Bool.{true, false}
+use mathlib.Core.List.{List, [], ◌∷◌, ◌++◌, append-nil, append_assoc}
 use native.Mathlib.Omega.{arith}
 use native.Mathlib.Numerals.{add-one}
-use borrow.Author.Tests.{le-leb, lt-leb, leb-true, leb-false}
+use borrow.Author.Tests.{le-leb, lt-leb}
 use lib.Dec.{leb}
-use lib.ListN.{length, get_or, set, drop, length-append}
-use lib.Seq.{sets, drop-cons}
+use lib.ListN.{length, get_or, set, take, drop, length-append}
+use Rattle.std.proofs.lemmas.List.{take-append-drop}
+use Rattle.std.specs.Prelude.{None, Some}
+use lib.Seq.{sets, drop-cons, drop-drop}
 use Rattle.laws.specs.Choice.{between}
 use Rattle.laws.specs.Lists.{over, drop_all, stored, sets_append}
 use Rattle.hexadecimal.specs.Hex.{hex, written}
@@ -66,71 +68,51 @@ module _ (a : Answer) (l l₁ l₂ l₃ l₄ : List ℕ) where
       put_four l l₁ l₂ l₃ l₄ (field 8 a.instructions 0x20) (field 4 a.choices 0x20) (field 4 a.inputs 0x20) (field 4 a.threads 0x0a) 20 29 34 39 e₁ e₂ e₃ e₄
       (simp length_field) (simp length_field) (simp length_field)
 
-pub answer_put : (a : Answer) (l m o : List ℕ) → m ≡ sets l 0 (stop_fields a) → o ≡ sets m 20 (count_fields a) → o ≡ sets l 0 (answer_line a)
+pub answer_put : (a : Answer) (l m o : List ℕ) → length l ≡ 44 → m ≡ sets l 0 (stop_fields a) → o ≡ sets m 20 (count_fields a) → o ≡ answer_line a
 unfolding answer_line
-answer_put a l m o e g = put_after l m o (stop_fields a) (count_fields a) 0 20 e g (omega (arith, length_stop a))
+answer_put a l m o f e g =
+    let k : length (stop_fields a ++ count_fields a) ≡ 44 = length_line a in
+    let s : o ≡ over (stop_fields a ++ count_fields a) l = put_after l m o (stop_fields a) (count_fields a) 0 20 e g (omega (arith, length_stop a)) ∙ stored (stop_fields a ++ count_fields a) l (omega arith) in
+    let d : drop (length (stop_fields a ++ count_fields a)) l ≡ [] = drop_all l (length (stop_fields a ++ count_fields a)) (omega arith) in
+    s ∙ rw (d, append-nil)
 
 -- the loop over the cells
-pub cells_turn : (l m ys xs : List ℕ) (i at : ℕ) → i < length xs → at ≡ 44 + 9 * i → sets l (44 + 9 * i) (cell_lines (drop i xs)) ≡ ys → m ≡ sets l at (field 8 (get_or xs i 0) 0x0a) → sets m (44 + 9 * (i + 1)) (cell_lines (drop (i + 1) xs)) ≡ ys
+pub cells_turn : (l m ys xs : List ℕ) (i at : ℕ) → i < length xs → at ≡ 9 * i → sets l (9 * i) (cell_lines (drop i xs)) ≡ ys → m ≡ sets l at (field 8 (get_or xs i 0) 0x0a) → sets m (9 * (i + 1)) (cell_lines (drop (i + 1) xs)) ≡ ys
 unfolding cell_lines
 cells_turn l m ys xs i at h a e g =
-    let c : sets l (44 + 9 * i) (field 8 (get_or xs i 0) 0x0a ++ cell_lines (drop (suc i) xs)) ≡ ys = rw (drop-cons xs i 0 h) at e in
-    let k : 44 + 9 * i + length (field 8 (get_or xs i 0) 0x0a) ≡ 44 + 9 * suc i = omega (arith, length_field 8 (get_or xs i 0) 0x0a) in
-    rw (add-one i, g, a, ← k) (sym (sets_append (field 8 (get_or xs i 0) 0x0a) (cell_lines (drop (suc i) xs)) l (44 + 9 * i)) ∙ c)
+    let c : sets l (9 * i) (field 8 (get_or xs i 0) 0x0a ++ cell_lines (drop (suc i) xs)) ≡ ys = rw (drop-cons xs i 0 h) at e in
+    let k : 9 * i + length (field 8 (get_or xs i 0) 0x0a) ≡ 9 * suc i = omega (arith, length_field 8 (get_or xs i 0) 0x0a) in
+    rw (add-one i, g, a, ← k) (sym (sets_append (field 8 (get_or xs i 0) 0x0a) (cell_lines (drop (suc i) xs)) l (9 * i)) ∙ c)
 
-pub cells_end : (l ys xs : List ℕ) (i : ℕ) → length xs ≤ i → sets l (44 + 9 * i) (cell_lines (drop i xs)) ≡ ys → l ≡ ys
+pub cells_end : (l ys xs : List ℕ) (i : ℕ) → length xs ≤ i → sets l (9 * i) (cell_lines (drop i xs)) ≡ ys → l ≡ ys
 unfolding cell_lines
 cells_end l ys xs i h e = rw (drop_all xs i h) at e
 
-put_is : (n : ℕ) (m t l : List ℕ) → length t ≡ n → m ≡ over t l → wrote n m ≡ put t l
-put_is n m t l e g = rw (g, ← e)
-
--- the answer's line, and the cells after it
-module _ (a : Answer) (cells l m : List ℕ) (b : Bool) (n : ℕ) (f : 44 + 9 * length cells ≤ length l) (e : m ≡ sets l 0 (answer_line a)) (q : n ≡ a.number) (t : b ≡ between 1 n 9) where
-  pub shown_refused : b ≡ true → wrote 44 m ≡ put (shown a cells) l
-  unfolding shown
-  shown_refused h =
-      let r : between 1 a.number 9 ≡ true = ap (λ (k : ℕ). between 1 k 9) (sym q) ∙ sym t ∙ h in
-      let s : m ≡ over (answer_line a) l = e ∙ stored (answer_line a) l (omega (arith, length_line a)) in
-      rw (r, append-nil) (put_is 44 m (answer_line a) l (length_line a) s)
-
-  pub shown_whole : (o : List ℕ) → b ≡ false → o ≡ sets m 44 (cell_lines cells) → wrote (44 + 9 * length cells) o ≡ put (shown a cells) l
-  unfolding shown
-  shown_whole o h g =
-      let r : between 1 a.number 9 ≡ false = ap (λ (k : ℕ). between 1 k 9) (sym q) ∙ sym t ∙ h in
-      let k : length (answer_line a ++ cell_lines cells) ≡ 44 + 9 * length cells = simp (length-append, length_line a, length_cells cells) in
-      let s : o ≡ sets l 0 (answer_line a ++ cell_lines cells) = put_after l m o (answer_line a) (cell_lines cells) 0 44 e g (omega (arith, length_line a)) in
-      let p : o ≡ over (answer_line a ++ cell_lines cells) l = s ∙ stored (answer_line a ++ cell_lines cells) l (omega (arith, k)) in
-      rw r (put_is (44 + 9 * length cells) o (answer_line a ++ cell_lines cells) l k p)
-
-pub ruleset shown_laws = (shown_refused, shown_whole)
-
--- whether there is room
-pub no_line : (n m : ℕ) → m < 44 → false ≡ leb (44 + 9 * n) m
-no_line n m h = sym (lt-leb (44 + 9 * n) m (omega arith))
-
-pub lines_fit : (n m : ℕ) → 44 ≤ m → leb n ((m - 44) / 9) ≡ leb (44 + 9 * n) m
-lines_fit n m h = by (leb n ((m - 44) / 9)) refl
-  where
-    by : (b : Bool) → leb n ((m - 44) / 9) ≡ b → b ≡ leb (44 + 9 * n) m
-    by true e = sym (le-leb (44 + 9 * n) m (omega (arith, leb-true n ((m - 44) / 9) e)))
-    by false e = sym (lt-leb (44 + 9 * n) m (omega (arith, leb-false n ((m - 44) / 9) e)))
-
--- what the test for it says
-module _ (n m : ℕ) (b : Bool) (t : b ≡ leb (44 + 9 * n) m) where
-  pub room_there : b ≡ true → 44 + 9 * n ≤ m
-  room_there h = leb-true (44 + 9 * n) m (sym t ∙ h)
-
-module _ (a : Answer) (cells out : List ℕ) (b : Bool) (t : b ≡ leb (44 + 9 * length cells) (length out)) where
-  pub shown_there : (w : Written) → b ≡ true → w ≡ put (shown a cells) out → w ≡ shown_in a cells out
+-- a buffer in two parts: the answer's line, and the lines of the cells after it
+module _ (a : Answer) (cells out lines : List ℕ) where
+  pub show_short : length out < 44 → wrote None out ≡ shown_in a cells out
   unfolding shown_in
-  shown_there w h e = rw (← t, h) e
+  show_short h = rw (lt-leb (44 + 9 * length cells) (length out) (omega arith))
 
-  pub shown_not : b ≡ false → wrote 0 out ≡ shown_in a cells out
-  unfolding shown_in
-  shown_not h = rw (← t, h)
+  module _ (e : lines ≡ drop 44 out) (k : length lines + 44 ≡ length out) where
+    pub show_narrow : (line : List ℕ) → line ≡ take 44 out → length lines / 9 < length cells → wrote None (line ++ lines) ≡ shown_in a cells out
+    unfolding shown_in
+    show_narrow line g h = rw (lt-leb (44 + 9 * length cells) (length out) (omega arith), g, e, take-append-drop 44 out)
 
-pub ruleset shown_in_laws = (shown_there, shown_not)
+    module _ (m : List ℕ) (h : length cells ≤ length lines / 9) (g : m ≡ answer_line a) where
+      there : leb (44 + 9 * length cells) (length out) ≡ true
+      there = le-leb (44 + 9 * length cells) (length out) (omega arith)
+
+      pub show_refused : true ≡ between 1 a.number 9 → wrote (Some 44) (m ++ lines) ≡ shown_in a cells out
+      unfolding shown_in shown
+      show_refused z = rw (there, ← z, append-nil, length_line a, g, e)
+
+      pub show_whole : (o : List ℕ) → false ≡ between 1 a.number 9 → o ≡ sets lines 0 (cell_lines cells) → wrote (Some (44 + 9 * length cells)) (m ++ o) ≡ shown_in a cells out
+      unfolding shown_in shown
+      show_whole o z p =
+          let l : length (answer_line a ++ cell_lines cells) ≡ 44 + 9 * length cells = simp (length-append, length_line a, length_cells cells) in
+          let s : o ≡ cell_lines cells ++ drop (9 * length cells) (drop 44 out) = p ∙ stored (cell_lines cells) lines (omega (arith, length_cells cells)) ∙ rw (length_cells cells, e) in
+          rw (there, ← z, l, g, s, drop-drop, append_assoc)
 
 -- and what is shown to those who know that there is room
 pub shown_is : (a : Answer) (cells out : List ℕ) (w : Written) → 44 + 9 * length cells ≤ length out → w ≡ shown_in a cells out → w ≡ put (shown a cells) out

@@ -6,18 +6,17 @@ use mathlib.Core.List.{List, [], ◌∷◌}
 use native.Mathlib.Omega.{arith}
 use borrow.Author.Tests.{ltb-true, ltb-false, leb-true, leb-false, lt-ltb, le-ltb, le-leb, lt-leb, eqb-true, ne_eqb}
 use lib.Dec.{eqb, ltb, leb}
-use lib.ListN.{length, take, drop, replicate, length-take}
+use lib.ListN.{length, take, replicate, length-take}
 use lib.Seq.{get_or-take, take-nil}
-use Rattle.std.specs.Prelude.{if◌then◌else◌}
+use Rattle.std.proofs.lemmas.List.{drop-take}
+use Rattle.std.specs.Prelude.{if◌then◌else◌, Option, None, Some}
 use Rattle.laws.specs.Lists.{over}
 use Rattle.hexadecimal.specs.Hex.{digits, value, number_at}
-use Rattle.hexadecimal.specs.declared.Number.{Number}
-use Rattle.hexadecimal.specs.declared.Number.TheVariants.{Is, Malformed}
 use Rattle.image.specs.Limits.{most_lines, most_choices, most_inputs}
 use Rattle.image.specs.Judge.{Said, say, judged}
 use Rattle.lines.specs.Text.{line_at, before as frame_before, frames_from, frames, more, settled, Outcome, outcome, read_as, reading}
 use Rattle.lines.proofs.Cap.{looking, same_answer, same_frames}
-use Rattle.program.specs.JobLines.{line_length, ended, after_line, budget_of, Numbers, these, malformed, numbers_from, numbers_of}
+use Rattle.program.specs.JobLines.{line_length, ended, after_line, budget_of, numbers_from, numbers_of}
 use Rattle.program.specs.Whole.{by_image, from_image, by_inputs, from_inputs, by_choices, from_choices, by_budget, printed, longest_job}
 
 -- tests against two bounds that agree
@@ -63,7 +62,7 @@ module _ (c : ℕ) (bs : List ℕ) where
   below x h =
       ltb_same x (length (take c bs)) (length bs) (λ l. omega (arith, length-take c bs)) (λ l. omega (arith, length-take c bs))
 
-  number_take : (at n : ℕ) → at + n ≤ c → number_at (take c bs) at n ≡ number_at bs at n
+  pub number_take : (at n : ℕ) → at + n ≤ c → number_at (take c bs) at n ≡ number_at bs at n
   unfolding number_at
   number_take at n h = rw (within (at + n) h, digits_take at n h, value_take at n h)
 
@@ -77,9 +76,9 @@ module _ (c : ℕ) (bs : List ℕ) where
   frames_take i zero h = refl
   frames_take i (suc n) h = rw (line_take (17 * i) (omega arith), frames_take (suc i) n (omega arith))
 
-few_before : (l : Number) (xs : List ℕ) (n : ℕ) → length xs ≤ n → length (frame_before l xs) ≤ suc n
-few_before (Is f) xs n h = omega arith
-few_before Malformed xs n h = omega arith
+few_before : (l : Option ℕ) (xs : List ℕ) (n : ℕ) → length xs ≤ n → length (frame_before l xs) ≤ suc n
+few_before (Some f) xs n h = omega arith
+few_before None xs n h = omega arith
 
 few_frames : (bs : List ℕ) (i n : ℕ) → length (frames_from bs i n) ≤ n
 unfolding frames_from
@@ -139,15 +138,6 @@ length_long (b ∷ bs) (suc c) h = by (eqb b 0x0a) h (λ l. length_long bs c l)
     by true l f = absurd (omega arith)
     by false l f = ap suc (f (omega arith))
 
-drop_take : (n m : ℕ) (l : List ℕ) → drop n (take (n + m) l) ≡ take m (drop n l)
-drop_take zero m l =
-    let e : 0 + m ≡ m = omega arith in
-    rw e
-drop_take (suc n) m [] = rw (take-nil (suc n + m), take-nil m)
-drop_take (suc n) m (x ∷ l) =
-    let e : suc n + m ≡ suc (n + m) = omega arith in
-    rw e (drop_take n m l)
-
 module _ (c : ℕ) (text : List ℕ) where
   -- a line that goes past the cut is not ended before it
   cut_unended : c ≤ line_length text → ended (take c text) ≡ false
@@ -163,9 +153,9 @@ module _ (c : ℕ) (text : List ℕ) where
     same_ended = rw same_length (below c text (line_length text) h)
 
     after_take : (m : ℕ) → line_length text + 1 + m ≡ c → after_line (take c text) ≡ take m (after_line text)
-    after_take m e = rw (same_length, ← e) (drop_take (line_length text + 1) m text)
+    after_take m e = rw (same_length, ← e) (drop-take (line_length text + 1) m text)
 
-  numbers_take : (n i k : ℕ) → ((j : ℕ) → j < k → n * (i + j) + n ≤ c) → numbers_from (take c text) n i k ≡ numbers_from text n i k
+  pub numbers_take : (n i k : ℕ) → ((j : ℕ) → j < k → n * (i + j) + n ≤ c) → numbers_from (take c text) n i k ≡ numbers_from text n i k
   unfolding numbers_from
   numbers_take n i zero h = refl
   numbers_take n i (suc k) h =
@@ -184,7 +174,7 @@ record Read (n most : ℕ) (text : List ℕ) : Type 0 where
   pub few : line_length text / n ≤ most
 
 module _ (n most : ℕ) (text : List ℕ) where
-  by_tests : (xs : List ℕ) (a b c : Bool) (r : Numbers) → eqb (line_length text % n) 0 ≡ b → leb (line_length text / n) most ≡ c → (if a && b && c then r else malformed) ≡ these xs → Read n most text
+  by_tests : (xs : List ℕ) (a b c : Bool) (r : Option (List ℕ)) → eqb (line_length text % n) 0 ≡ b → leb (line_length text / n) most ≡ c → (if a && b && c then r else None) ≡ Some xs → Read n most text
   by_tests xs true true true r p q e = record { even = eqb-true (line_length text % n) 0 p; few = leb-true (line_length text / n) most q }
   by_tests xs true true false r p q e =
       let z : ◌≡◌ {A = ℕ} 0 1 = cc in
@@ -196,20 +186,20 @@ module _ (n most : ℕ) (text : List ℕ) where
       let z : ◌≡◌ {A = ℕ} 0 1 = cc in
       absurd (omega arith)
 
-  reads : (xs : List ℕ) → numbers_of n most text ≡ these xs → Read n most text
+  reads : (xs : List ℕ) → numbers_of n most text ≡ Some xs → Read n most text
   unfolding numbers_of
   reads xs e = by_tests xs (ended text) (eqb (line_length text % n) 0) (leb (line_length text / n) most) _ refl refl e
 
-  too_many : (a b : Bool) (r : Numbers) → (if a && b && false then r else malformed) ≡ malformed
+  too_many : (a b : Bool) (r : Option (List ℕ)) → (if a && b && false then r else None) ≡ None
   too_many true true r = refl
   too_many true false r = refl
   too_many false b r = refl
 
-  numbers_far : most < line_length text / n → numbers_of n most text ≡ malformed
+  numbers_far : most < line_length text / n → numbers_of n most text ≡ None
   unfolding numbers_of
   numbers_far h = rw (lt-leb (line_length text / n) most h) (too_many (ended text) (eqb (line_length text % n) 0) _)
 
-  numbers_cut : (c : ℕ) → c ≤ line_length text → numbers_of n most (take c text) ≡ malformed
+  numbers_cut : (c : ℕ) → c ≤ line_length text → numbers_of n most (take c text) ≡ None
   unfolding numbers_of
   numbers_cut c h = rw (cut_unended c text h)
 
@@ -219,15 +209,15 @@ module _ (n most : ℕ) (text : List ℕ) where
       rw (same_ended c text h, same_length c text h, numbers_take c text n 0 (line_length text / n) (λ j l. omega (arith, inside (line_length text) j l)))
 
 -- a stage that reads numbers: where the next one looks at no more than K bytes, this one looks at no more than the longest line and those
-module _ (n most K c : ℕ) (go : Numbers → List ℕ → List ℕ) (text : List ℕ)
-    (stops : (r s : List ℕ) → go malformed r ≡ go malformed s)
-    (goes_on : (xs rest : List ℕ) (m : ℕ) → K ≤ m → go (these xs) (take m rest) ≡ go (these xs) rest)
+module _ (n most K c : ℕ) (go : Option (List ℕ) → List ℕ → List ℕ) (text : List ℕ)
+    (stops : (r s : List ℕ) → go None r ≡ go None s)
+    (goes_on : (xs rest : List ℕ) (m : ℕ) → K ≤ m → go (Some xs) (take m rest) ≡ go (Some xs) rest)
     (far : (x : ℕ) → c ≤ x → most < x / n)
     (near : (x : ℕ) → x % n ≡ 0 → x / n ≤ most → K + x + 1 ≤ c)
     (inside : (x j : ℕ) → j < x / n → n * (0 + j) + n ≤ x) where
-  by_line : line_length text < c → (r : Numbers) → numbers_of n most text ≡ r → go r (after_line (take c text)) ≡ go r (after_line text)
-  by_line h malformed e = stops (after_line (take c text)) (after_line text)
-  by_line h (these xs) e =
+  by_line : line_length text < c → (r : Option (List ℕ)) → numbers_of n most text ≡ r → go r (after_line (take c text)) ≡ go r (after_line text)
+  by_line h None e = stops (after_line (take c text)) (after_line text)
+  by_line h (Some xs) e =
       let r : Read n most text = reads n most text xs e in
       let k : K + line_length text + 1 ≤ c = near (line_length text) r.even r.few in
       let m : line_length text + 1 + (c - (line_length text + 1)) ≡ c = omega arith in
@@ -259,15 +249,15 @@ choices_take b c text h =
 
 -- the budget
 module _ (c : ℕ) (text : List ℕ) where
-  unlike : (a : Bool) (r : Number) → (if a && false then r else Malformed) ≡ Malformed
+  unlike : (a : Bool) (r : Option ℕ) → (if a && false then r else None) ≡ None
   unlike true r = refl
   unlike false r = refl
 
-  budget_far : 8 < line_length text → budget_of text ≡ Malformed
+  budget_far : 8 < line_length text → budget_of text ≡ None
   unfolding budget_of
   budget_far h = rw (ne_eqb (line_length text) 8 (λ e. omega arith)) (unlike (ended text) (number_at text 0 8))
 
-  budget_cut : c ≤ line_length text → budget_of (take c text) ≡ Malformed
+  budget_cut : c ≤ line_length text → budget_of (take c text) ≡ None
   unfolding budget_of
   budget_cut h = rw (cut_unended c text h)
 
@@ -275,21 +265,21 @@ module _ (c : ℕ) (text : List ℕ) where
   unfolding budget_of
   budget_same g h = rw (same_ended c text h, same_length c text h, number_take c text 0 8 (omega arith))
 
-  by_eight : (x : ℕ) (a t : Bool) → eqb (line_length text) 8 ≡ t → (if a && t then number_at text 0 8 else Malformed) ≡ Is x → line_length text ≡ 8
+  by_eight : (x : ℕ) (a t : Bool) → eqb (line_length text) 8 ≡ t → (if a && t then number_at text 0 8 else None) ≡ Some x → line_length text ≡ 8
   by_eight x a true p e = eqb-true (line_length text) 8 p
   by_eight x a false p e =
-      let z : Malformed ≡ Is x = sym (unlike a (number_at text 0 8)) ∙ e in
+      let z : None ≡ Some x = sym (unlike a (number_at text 0 8)) ∙ e in
       let y : ◌≡◌ {A = ℕ} 0 1 = cc in
       absurd (omega arith)
 
-  eight : (x : ℕ) → budget_of text ≡ Is x → line_length text ≡ 8
+  eight : (x : ℕ) → budget_of text ≡ Some x → line_length text ≡ 8
   unfolding budget_of
   eight x e = by_eight x (ended text) (eqb (line_length text) 8) refl e
 
   module _ (h : 9 + (17 * most_lines + 1 + 8193 + 8193) ≤ c) where
-    by_budget_lem : line_length text < c → (r : Number) → budget_of text ≡ r → by_budget r (after_line (take c text)) ≡ by_budget r (after_line text)
-    by_budget_lem l Malformed e = refl
-    by_budget_lem l (Is b) e =
+    by_budget_lem : line_length text < c → (r : Option ℕ) → budget_of text ≡ r → by_budget r (after_line (take c text)) ≡ by_budget r (after_line text)
+    by_budget_lem l None e = refl
+    by_budget_lem l (Some b) e =
         let k : line_length text ≡ 8 = eight b e in
         let m : line_length text + 1 + (c - 9) ≡ c = omega arith in
         rw (after_take c text l (c - 9) m) (choices_take b (c - 9) (after_line text) (omega arith))

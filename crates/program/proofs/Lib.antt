@@ -1,4 +1,3 @@
 pub mod Lines
-pub mod Refusals
 pub mod Cap
 pub mod Unique

@@ -4,12 +4,12 @@ use mathlib.Core.Path.{◌≡◌, refl, sym, ap, ◌∙◌}
 use mathlib.Core.Bool.{Bool, true, false}
 use mathlib.Core.List.{List}
 use native.Mathlib.Omega.{arith}
-use borrow.Author.Tests.{lt-ltb, le-ltb, eq-eqb, ne_eqb, eqb-true}
+use borrow.Author.Tests.{lt-ltb, le-ltb, eqb-true}
 use lib.Dec.{eqb, ltb}
 use lib.ListN.{length, take}
-use lib.Seq.{sets, length-take-le}
+use lib.Seq.{length-take-le}
 use Rattle.std.specs.Prelude.{if◌then◌else◌}
-use Rattle.laws.specs.Lists.{over, stored}
+use Rattle.laws.specs.Lists.{over}
 use Rattle.image.specs.Limits.{most_lines}
 use Rattle.image.specs.Judge.{Said, say, judged}
 use Rattle.lines.specs.Text.{frames_from, frames, more, settled, Outcome, outcome, read_as, reading}
@@ -20,16 +20,6 @@ use Rattle.lines.proofs.Cap.{same_answer, same_frames}
 pub read_room : (bs table : List ℕ) → length table < most_lines → outcome (say 8 0) table ≡ reading bs table
 unfolding reading
 read_room bs table h = rw (lt-ltb (length table) most_lines h)
-
--- the lines over the table, or the table as it was
-module _ (s : Said) (fs table : List ℕ) (k : ℕ) (e : k ≡ s.number) where
-  pub fill_refused : 0 < k → outcome s table ≡ read_as s fs table
-  fill_refused z = rw (ne_eqb s.number 0 (λ y. omega arith))
-
-  pub fill_done : (t : List ℕ) → length fs ≤ length table → k ≤ 0 → t ≡ sets table 0 fs → outcome s t ≡ read_as s fs table
-  fill_done t h z g = rw (eq-eqb s.number 0 (omega arith)) (ap (outcome s) (g ∙ stored fs table h))
-
-pub ruleset fill_laws = (fill_refused, fill_done)
 
 -- the frames matter only where the answer is 0
 read_as_same : (s : Said) (fs gs table : List ℕ) (b : Bool) → eqb s.number 0 ≡ b → (s.number ≡ 0 → fs ≡ gs) → outcome s (if b then over fs table else table) ≡ outcome s (if b then over gs table else table)

@@ -7,19 +7,16 @@ ghost use Rattle.image.specs.Judge.{said};
 ghost use Rattle.lines.specs.Text.{line_at, settled, outcome, read_as, reading};
 ghost use Rattle.reader.specs.Steps.{Decoded};
 
-use hexadecimal::Number;
-use image::{Image, Verdict};
+use image::{Image, Refusal, Verdict};
 
 // The number of the line that begins at byte at.
-fn line_at(bytes: &[u8], at: usize) -> Number
+#[tactic(auto, using(lines::proofs::Lines::line_laws))]
+fn line_at(bytes: &[u8], at: usize) -> Option<u64>
     requires { at ≤ length bytes.now }
     ensures { result ≡ line_at bytes.now at }
 {
-    if bytes.len() - at < 17 {
-        return Number::Malformed;
-    }
-    if bytes[at + 16] != 0x0a {
-        return Number::Malformed;
+    if bytes.len() - at < 17 || bytes[at + 16] != b'\n' {
+        return None;
     }
     hexadecimal::number_at(bytes, at, 16)
 }
@@ -28,57 +25,43 @@ fn line_at(bytes: &[u8], at: usize) -> Number
 fn decode_lines(bytes: &[u8], words: &mut [u64]) -> usize
     ensures { Decoded bytes.now words.new result }
 {
-    let mut i: usize = 0;
-    let mut at: usize = 0;
-    while i < words.len() {
-        let Number::Is(x) = line_at(bytes, at) else {
+    for (i, word) in words.iter_mut().enumerate() {
+        let Some(x) = line_at(bytes, 17 * i) else {
             return i;
         };
-        words[i] = x;
-        i = i + 1;
-        at = at + 17;
+        *word = x;
     }
-    i
+    words.len()
 }
 
 // The judge's verdict over the lines read, where bytes are left after them.
+#[tactic(auto, unfolding(lines::specs::Text::settled))]
 fn settle(v: Verdict, left: bool) -> Verdict
     ensures { said result ≡ settled left (said v) }
 {
-    if left {
-        let n = v.number();
-        if n == 0 {
-            return Verdict::Extra(v.line());
-        }
-        if n == 6 {
-            return Verdict::Line(v.line());
-        }
-        return v;
+    match v {
+        Ok(n) if left => Err(Refusal::Extra(n)),
+        Err(Refusal::Short(n)) if left => Err(Refusal::Line(n)),
+        _ => v,
     }
-    v
 }
 
 fn copy(from: &[u64], to: &mut [u64])
     requires { length from.now ≤ length to.old }
     ensures { to.new ≡ sets to.old 0 from.now }
 {
-    let mut i: usize = 0;
-    while i < from.len() {
-        to[i] = from[i];
-        i = i + 1;
-    }
+    to[..from.len()].copy_from_slice(from);
 }
 
 // The lines go to the table's start where the verdict is 0.
+#[tactic(auto, using(laws::specs::Lists::stored))]
 fn fill(v: Verdict, lines: &[u64], table: &mut [u64]) -> Verdict
     requires { length lines.now ≤ length table.old }
     ensures { outcome (said result) table.new ≡ read_as (said v) lines.now table.old }
 {
-    if 0 < v.number() {
-        return v;
-    }
+    let n = v?;
     copy(lines, table);
-    v
+    Ok(n)
 }
 
 // Reads an image's lines into a table. They go to a table of its own first, so that a refusal changes nothing.
@@ -87,7 +70,7 @@ pub fn read(bytes: &[u8], table: &mut [u64]) -> Verdict
     ensures { outcome (said result) table.new ≡ reading bytes.now table.old }
 {
     if table.len() < Image::LINES {
-        return Verdict::Room;
+        return Err(Refusal::Room);
     }
     let mut words = [0u64; Image::LINES];
     let n = decode_lines(bytes, &mut words);

@@ -1,7 +1,7 @@
 -- A run of an accepted table is the definition's run. Assumes nothing.
-use Prim.Native.Nat.{ℕ, zero, suc, ◌+◌, ◌*◌, ◌<◌, ◌≤◌}
-use mathlib.Core.Path.{◌≡◌, refl, ap, ◌∙◌}
-use mathlib.Core.List.{List, [], ◌∷◌, ◌++◌}
+use Prim.Native.Nat.{ℕ, ◌+◌, ◌*◌, ◌<◌, ◌≤◌}
+use mathlib.Core.Path.{◌≡◌, ◌∙◌}
+use mathlib.Core.List.{List, ◌++◌}
 use native.Mathlib.Omega.{arith}
 use lib.ListN.{length, get_or, drop, length-drop, replicate}
 use Rattle.frame.specs.Fields.{fields}
@@ -15,13 +15,7 @@ use Rattle.turns.specs.Stands.{Firsts}
 use Rattle.turns.specs.Code.{turns, told, started, first_lists, zeroed}
 use Rattle.turns.proofs.Turns.{Given}
 use Rattle.turns.proofs.Ends.{told_is, first_ran_lem}
-use Rattle.run.proofs.Ends.{header}
-
-zeroed_is : (n : ℕ) (cs : List ℕ) → n ≤ length cs → zeroed n cs ≡ replicate n 0 ++ drop n cs
-unfolding zeroed
-zeroed_is zero cs h = refl
-zeroed_is (suc n) [] h = absurd (omega arith)
-zeroed_is (suc n) (x ∷ cs) h = ap (λ (l : List ℕ). 0 ∷ l) (zeroed_is n cs (omega arith))
+use Rattle.run.proofs.Ends.{zeroed_is, header}
 
 module _ (t : List ℕ) (good : (judged t).number ≡ 0) (f : Frame) (e : f ≡ fields (get_or t 0 0)) where
   pub accepted_run : (ch ins lent fs cs : List ℕ) (budget : ℕ) (o : Outcome) → length ch ≤ 4096 → 256 ≤ length lent → budget < 4294967296 → Firsts t (1 + f.d + f.b + 1) fs → cs ≡ zeroed f.imm lent

@@ -1,49 +1,38 @@
 -- From its first state to its end, each law as an arm of the code has it; the lines of the bodies, and what is asked. Assumes nothing.
-use Prim.Native.Nat.{ℕ, zero, suc, ◌+◌, ◌-◌, ◌*◌, ◌%◌, ◌<◌, ◌≤◌}
+use Prim.Native.Nat.{ℕ, zero, suc, ◌+◌, ◌-◌, ◌%◌, ◌<◌, ◌≤◌}
 use mathlib.Core.Path.{◌≡◌, refl, sym, ap, ◌∙◌}
-use mathlib.Core.List.{List, [], ◌∷◌}
+use mathlib.Core.List.{List, [], ◌∷◌, ◌++◌}
 use native.Mathlib.Omega.{arith}
 use native.Mathlib.Numerals.{add-one}
 use borrow.Author.Tests.{lt-ltb, le-ltb, ne_eqb}
-use lib.ListN.{length, get_or, set, take, replicate}
+use lib.ListN.{length, get_or, set, take, drop, length-drop, replicate}
+use Rattle.std.proofs.lemmas.List.{get_or-take}
+use Rattle.std.proofs.lemmas.Grind.{get_or_after_one}
 use lib.Seq.{length-take-le, get_or-set_same, get_or-set_other}
 use Rattle.frame.specs.Fields.{fields}
 use Rattle.frame.specs.declared.Frame.{Frame}
-use Rattle.image.specs.declared.Verdict.{Verdict}
 use Rattle.image.specs.Layout.{lengths, frame, counts, bodies, len, first, due}
-use Rattle.image.specs.Judge.{judged, Said, said as verdict_of}
+use Rattle.image.specs.Judge.{judged, Said, say}
 use Rattle.image.proofs.Walk.{due_above, first_next, first_grows}
 use Rattle.image.proofs.Accepted.{accepted_has, few_lines, Counted, counted}
 use Rattle.kernel.specs.Machine.{Job}
 use Rattle.kernel.specs.Run.{Answer as Told, asked as asked_for, Outcome, runs}
-use Rattle.plain.specs.declared.Ran.{Ran}
-use Rattle.plain.specs.Plain.{Out, run_plain}
 use Rattle.dues.specs.Codes.{for_nothing}
 use Rattle.dues.specs.Laws as P
-use Rattle.turns.specs.declared.Now.{Now}
 use Rattle.shows.specs.Shows.{Lists, lists}
 use Rattle.turns.specs.Stands.{Firsts}
-use Rattle.turns.specs.Code.{code, turns, answered, told, refused_at, first_now, first_ran, started, first_lists, zeroed}
+use Rattle.turns.specs.Code.{Code, turns, answered, told, refused_at, started, first_lists, zeroed}
 
 -- The cells at first -----------------------------------------------------------------------------------------------
 
--- one more
-zeroed_set : (n : ℕ) (cs : List ℕ) → set (zeroed n cs) n 0 ≡ zeroed (suc n) cs
+pub zeroed_is : (n : ℕ) (cs : List ℕ) → n ≤ length cs → zeroed n cs ≡ replicate n 0 ++ drop n cs
 unfolding zeroed
-zeroed_set zero [] = refl
-zeroed_set zero (x ∷ cs) = refl
-zeroed_set (suc n) [] = refl
-zeroed_set (suc n) (x ∷ cs) = ap (λ (l : List ℕ). 0 ∷ l) (zeroed_set n cs)
+zeroed_is zero cs h = refl
+zeroed_is (suc n) [] h = absurd (omega arith)
+zeroed_is (suc n) (x ∷ cs) h = ap (λ (l : List ℕ). 0 ∷ l) (zeroed_is n cs (omega arith))
 
-pub zeroed_none : (cs : List ℕ) → cs ≡ zeroed 0 cs
-unfolding zeroed
-zeroed_none cs = refl
-
-pub zeroed_more : (i : ℕ) (l cs : List ℕ) → l ≡ zeroed i cs → set l i 0 ≡ zeroed (i + 1) cs
-zeroed_more i l cs e = rw (e, add-one i) (zeroed_set i cs)
-
-pub zeroed_all : (i n : ℕ) (l cs : List ℕ) → i ≤ n → n ≤ i → l ≡ zeroed i cs → l ≡ zeroed n cs
-zeroed_all i n l cs h k e = let q : i ≡ n = omega arith in rw (← q) e
+pub zeroed_by : (n : ℕ) (fs cs : List ℕ) → n ≤ length cs → fs ≡ replicate (length (take n cs)) 0 → fs ++ drop n cs ≡ zeroed n cs
+zeroed_by n fs cs h e = rw (e, length-take-le n cs h) (sym (zeroed_is n cs h))
 
 -- The lines of the bodies ------------------------------------------------------------------------------------------
 
@@ -59,40 +48,49 @@ module _ (t fs : List ℕ) (k at : ℕ) where
       same i q = rw (q, get_or-set_same fs k at 0 l) e
 
   -- after the loop
-  pub firsts_end : (b : ℕ) → Firsts t k fs → at ≡ first t k → k ≤ b → b ≤ k → b < length fs → Firsts t (b + 1) (set fs b at)
-  firsts_end b f e h g l = let q : b ≡ k = omega arith in rw q (firsts_more f e (omega arith))
+  pub firsts_end : (b : ℕ) → Firsts t k fs → at ≡ first t k → k ≡ b → b < length fs → Firsts t (b + 1) (set fs b at)
+  firsts_end b f e q l = rw (← q) (firsts_more f e (omega arith))
 
 pub first_begins : (t : List ℕ) (b : ℕ) → b ≡ bodies t → 1 + b ≡ first t 0
 unfolding first lengths
 first_begins t b e = omega arith
 
-pub line_next : (t : List ℕ) (k at : ℕ) (f : Frame) → f ≡ fields (get_or t (k + 1) 0) → at ≡ first t k → at + f.imm ≡ first t (k + 1)
-unfolding len
-line_next t k at f g e = rw g (ap (λ (x : ℕ). x + (frame t (k + 1)).imm) e ∙ sym (first_next t k) ∙ ap (first t) (sym (add-one k)))
+-- the lines of the bodies' frames
+abbrev pub lines : ℕ → List ℕ → List ℕ
+lines b t = take (1 + b - 1) (drop 1 t)
 
--- a body's frame, and its instructions, stand in the table
-module _ (t : List ℕ) (b k : ℕ) (good : (judged t).number ≡ 0) (all : b ≡ bodies t) (there : k < b) where
-  pub frame_there : k + 1 < length t
-  frame_there = omega (arith, (accepted_has t good).all_due, due_above t)
+module _ (t : List ℕ) (b : ℕ) (good : (judged t).number ≡ 0) (all : b ≡ bodies t) where
+  pub lines_there : 1 + b ≤ length t
+  lines_there = omega (arith, (accepted_has t good).all_due, due_above t)
 
-  pub line_fits : (m at : ℕ) (f : Frame) → f ≡ fields (get_or t (k + 1) 0) → at ≡ first t k → length t < m → at + f.imm < m
-  unfolding due
-  line_fits m at f g e l =
-      omega (arith, line_next t k at f g e, (accepted_has t good).all_due, first_grows t (k + 1) (bodies t) (omega arith))
+  pub lines_many : length (lines b t) ≡ b
+  lines_many =
+      let l = length-drop 1 t in
+      let e : 1 + b - 1 ≡ b = omega arith in
+      length-take-le (1 + b - 1) (drop 1 t) (omega (arith, lines_there, l)) ∙ e
 
--- main's first plain instructions
-pub first_ran_is : (t fs ps qs cs ds : List ℕ) (threads budget base a len : ℕ) (r : Ran) (n : Now) → base ≡ get_or fs 0 0 → a ≡ get_or fs 1 0 → len ≡ a - base → record { ran = r; cells = ds } ≡ run_plain budget t base len 0 cs → qs ≡ set ps 0 r.place → n ≡ first_now threads r.left
-    → (n ≡ first_now threads (first_ran t fs budget cs).ran.left) × (qs ≡ set ps 0 (first_ran t fs budget cs).ran.place) × (ds ≡ (first_ran t fs budget cs).cells)
-first_ran_is t fs ps qs cs ds threads budget base a len r n b c d e f g =
-    let o : record { ran = r; cells = ds } ≡ first_ran t fs budget cs = rw (← c, ← b, ← d) e in
-    (g ∙ ap (λ (x : Out). first_now threads x.ran.left) o, f ∙ ap (λ (x : Out). set ps 0 x.ran.place) o, ap (λ (x : Out). x.cells) o)
+  module _ (k at : ℕ) (f : Frame) (there : k < length (lines b t)) (g : f ≡ fields (get_or (lines b t) k 0)) (e : at ≡ first t k) where
+    line_is : f ≡ fields (get_or t (k + 1) 0)
+    line_is =
+        let n : 1 + k ≡ k + 1 = omega arith in
+        g ∙ ap fields (get_or-take (1 + b - 1) (drop 1 t) k 0 (omega (arith, lines_many)) ∙ get_or_after_one t k 0 ∙ ap (λ (i : ℕ). get_or t i 0) n)
+
+    pub line_next : at + f.imm ≡ first t (k + 1)
+    unfolding len
+    line_next =
+        rw line_is (ap (λ (x : ℕ). x + (frame t (k + 1)).imm) e ∙ sym (first_next t k) ∙ ap (first t) (sym (add-one k)))
+
+    pub line_fits : (m : ℕ) → length t < m → at + f.imm < m
+    unfolding due
+    line_fits m l =
+        omega (arith, lines_many, line_next, (accepted_has t good).all_due, first_grows t (k + 1) (bodies t) (omega (arith, lines_many)))
 
 -- the answer of the turns, with the cells
-pub run_told : (t ch ins fs : List ℕ) (th w budget k : ℕ) (start n : Now) (l l' : Lists) (ps qs cs ds ps' cs' : List ℕ) (a : Told) → th ≡ w → (start ≡ first_now th (first_ran t fs budget cs).ran.left) × (qs ≡ set ps 0 (first_ran t fs budget cs).ran.place) × (ds ≡ (first_ran t fs budget cs).cells) → k ≡ 8 * (budget + length ch) + 1 → code n l' ps' cs' ≡ turns t ch ins fs w k (code start l qs ds) → a ≡ answered budget n
-    → record { answer = a; cells = cs' } ≡ told budget (turns t ch ins fs th (8 * (budget + length ch) + 1) (started t fs th budget l ps cs))
+pub run_told : (t ch ins fs : List ℕ) (budget k : ℕ) (l : Lists) (ps cs : List ℕ) (b d : Code) (a : Told) → b ≡ started t fs (length l.waits) budget l ps cs → d ≡ turns t ch ins fs (length b.lists.waits) k b → a ≡ answered budget d.now → record { answer = a; cells = d.cells } ≡ told budget (turns t ch ins fs (length l.waits) k (started t fs (length l.waits) budget l ps cs))
 unfolding told
-run_told t ch ins fs th w budget k start n l l' ps qs cs ds ps' cs' a g e q m h =
-    rw (← e.0, ← e.1, ← e.2, ← q, g, ← m, h)
+run_told t ch ins fs budget k l ps cs b d a e g h =
+    let q : d ≡ turns t ch ins fs (length l.waits) k (started t fs (length l.waits) budget l ps cs) = g ∙ ap (λ (x : Code). turns t ch ins fs (length x.lists.waits) k x) e in
+    rw (← q, h)
 
 -- The lists at first, cut from longer ones -------------------------------------------------------------------------
 
@@ -104,11 +102,12 @@ cut_same m zero x h = refl
 cut_same zero (suc e) x h = absurd (omega arith)
 cut_same (suc m) (suc e) x h = ap (λ (l : List ℕ). x ∷ l) (cut_same m e x (omega arith))
 
-pub laid : (t ch ins fs : List ℕ) (budget th ev up : ℕ) (cs : List ℕ) (o : Outcome) → th ≤ 16 → ev ≤ 32 → up ≤ 16
-    → o ≡ told budget (turns t ch ins fs th (8 * (budget + length ch) + 1) (started t fs th budget (lists (take ev (replicate 32 for_nothing)) (take th (replicate 16 for_nothing)) (take ev (replicate 32 0))) (take (1 + th + up) (replicate 33 0)) cs))
-    → o ≡ told budget (turns t ch ins fs th (8 * (budget + length ch) + 1) (started t fs th budget (first_lists th ev) (replicate (1 + th + up) 0) cs))
-laid t ch ins fs budget th ev up cs o h g f e =
-    rw (← cut_same 32 ev for_nothing g, ← cut_same 16 th for_nothing h, ← cut_same 32 ev 0 g, ← cut_same 33 (1 + th + up) 0 (omega arith)) e
+pub laid : (t ch ins fs : List ℕ) (budget th ev up k : ℕ) (cs : List ℕ) (o : Outcome) → th ≤ 16 → ev ≤ 32 → up ≤ 16
+    → o ≡ told budget (turns t ch ins fs (length (take th (replicate 16 for_nothing))) k (started t fs (length (take th (replicate 16 for_nothing))) budget (lists (take ev (replicate 32 for_nothing)) (take th (replicate 16 for_nothing)) (take ev (replicate 32 0))) (take (1 + th + up) (replicate 33 0)) cs))
+    → o ≡ told budget (turns t ch ins fs th k (started t fs th budget (first_lists th ev) (replicate (1 + th + up) 0) cs))
+laid t ch ins fs budget th ev up k cs o h g f e =
+    let w : length (take th (replicate 16 for_nothing)) ≡ th = sym (cut_counted th (replicate 16 for_nothing) h) in
+    rw (← cut_same 32 ev for_nothing g, ← cut_same 32 ev 0 g, ← cut_same 33 (1 + th + up) 0 (omega arith)) (rw (w, cut_same 16 th for_nothing h) at e)
 
 -- A run of an accepted table ---------------------------------------------------------------------------------------
 
@@ -147,23 +146,23 @@ module _ (j : Job) (lent cs : List ℕ) (a : Told) where
       asked_room r e q =
           rw (le-ltb 4096 (length j.choices) h, le-ltb 1024 (length j.inputs) g, lt-ltb (length lent) 256 r, e, q)
 
-      module _ (r : 256 ≤ length lent) (v : Verdict) (n : ℕ) (w : verdict_of v ≡ judged j.table) (m : n ≡ (verdict_of v).number) where
-        pub asked_run : n ≡ 0 → record { answer = a; cells = cs } ≡ runs j lent → IsAsked
+      module _ (r : 256 ≤ length lent) where
+        pub asked_run : (n : ℕ) → say 0 n ≡ judged j.table → record { answer = a; cells = cs } ≡ runs j lent → IsAsked
         unfolding asked_for
-        asked_run z e =
-            let y : (judged j.table).number ≡ 0 = ap (λ (x : Said). x.number) (sym w) ∙ sym m ∙ z in
+        asked_run n w e =
+            let y : (judged j.table).number ≡ 0 = ap (λ (x : Said). x.number) (sym w) in
             rw (le-ltb 4096 (length j.choices) h, le-ltb 1024 (length j.inputs) g, le-ltb (length lent) 256 r, y) e
 
-        pub asked_refused : (i : ℕ) → (n ≡ 0 → ⊥) → i ≡ (verdict_of v).line → (judged j.table).line < 4294967296 → a ≡ refused_at n i → cs ≡ lent → IsAsked
+        pub asked_refused : (v : Said) → v ≡ judged j.table → (v.number ≡ 0 → ⊥) → (judged j.table).line < 4294967296 → a ≡ refused_at v.number v.line → cs ≡ lent → IsAsked
         unfolding asked_for
-        asked_refused i z l s e q =
-            let y : (judged j.table).number ≡ n = ap (λ (x : Said). x.number) (sym w) ∙ sym m in
-            let k : i ≡ (judged j.table).line = l ∙ ap (λ (x : Said). x.line) w in
+        asked_refused v w z s e q =
+            let y : (judged j.table).number ≡ v.number = ap (λ (x : Said). x.number) (sym w) in
+            let k : v.line ≡ (judged j.table).line = ap (λ (x : Said). x.line) w in
             let u : (judged j.table).line % 4294967296 ≡ (judged j.table).line = omega arith in
-            rw (le-ltb 4096 (length j.choices) h, le-ltb 1024 (length j.inputs) g, le-ltb (length lent) 256 r, y, ne_eqb n 0 z, e, q, k, u)
+            rw (le-ltb 4096 (length j.choices) h, le-ltb 1024 (length j.inputs) g, le-ltb (length lent) 256 r, y, ne_eqb v.number 0 z, e, q, k, u)
 
 pub judged_low : (t : List ℕ) → (judged t).line < 4294967296
 judged_low t = omega (arith, few_lines t)
 
-pub judged_good : (v : Verdict) (n : ℕ) (t : List ℕ) → verdict_of v ≡ judged t → n ≡ (verdict_of v).number → n ≡ 0 → (judged t).number ≡ 0
-judged_good v n t w m z = ap (λ (x : Said). x.number) (sym w) ∙ sym m ∙ z
+pub judged_good : (n : ℕ) (t : List ℕ) → say 0 n ≡ judged t → (judged t).number ≡ 0
+judged_good n t w = ap (λ (x : Said). x.number) (sym w)

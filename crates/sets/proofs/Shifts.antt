@@ -2,22 +2,15 @@
 use Prim.Native.Nat.{ℕ, ◌-◌, ◌*◌, ◌/◌, ◌%◌, ◌^◌, ◌≤◌, ◌<◌}
 use mathlib.Core.Path.{◌≡◌, ap}
 use native.Mathlib.Nat.{one-mul, mod-eq_of_lt}
-use native.Mathlib.Omega.{arith}
-use mir.Syntax.{w64}
-use mir.Val.{Fits}
 use borrow.Author.Tests.{lt-ltb, le-ltb}
 use lib.Bits.{bit_and, and_mask}
-use lib.Count.{count_trailing_zeros, trailing_le}
-use lib.Pow.{pow_pos, pow-lt}
+use lib.Pow.{pow-lt}
 use lib.Dec.{eqb}
 use Rattle.sets.specs.Sets.{has, single, below}
 
 -- a 1 that is shifted by less than the width stays in it
 pub shifted : (i : ℕ) → i < 32 → 1 * 2 ^ i % 4294967296 ≡ 2 ^ i
 shifted i l = rw (one-mul (2 ^ i)) (mod-eq_of_lt (pow-lt {i = i} {j = 32} l))
-
-pub shifted_pos : (i : ℕ) → i < 32 → 1 ≤ 1 * 2 ^ i % 4294967296
-shifted_pos i l = rw (shifted i l) (pow_pos i)
 
 pub tested : (s i : ℕ) → eqb (bit_and (s / 2 ^ i) 1) 1 ≡ has s i
 unfolding has
@@ -38,6 +31,3 @@ below_in n l = rw (lt-ltb n 32 l) (ap (λ (k : ℕ). k - 1) (shifted n l))
 pub below_past : (n : ℕ) → 32 ≤ n → 4294967295 ≡ below n
 unfolding below
 below_past n l = rw (le-ltb n 32 l)
-
-pub count_fits : (n : ℕ) → Fits w64 (count_trailing_zeros 32 n)
-count_fits n = record { fits = omega (arith, trailing_le 32 n) }

@@ -1,6 +1,6 @@
 -- What is in a set, for each way that a set is made; what a set is by what is in it; and its least number.
 use Rattle.std.specs.Prelude.{ℕ, zero, suc, min, max, ◌+◌, ◌-◌, ◌*◌, ◌/◌, ◌%◌, ◌^◌, ◌≤◌, ◌<◌, ◌≡◌, refl, Bool, true, false, not, ◌&&◌, ◌||◌, eqb, ltb, if◌then◌else◌}
-use Rattle.std.proofs.Common.{sym, ap, ◌∙◌, pow-suc, mod-lt, zero-lt-suc, lt_of_lt_of_le, lt_of_le_of_lt, add_comm, one-add, arith, lt-ltb, ne_eqb, eqb-true, ltb-true, ltb-false, pow_pos, pow_mono, shr-shr}
+use Rattle.std.proofs.Common.{sym, ap, ◌∙◌, pow-suc, mod-lt, zero-lt-suc, lt_of_lt_of_le, lt_of_le_of_lt, add_comm, one-add, arith, lt-ltb, eq-eqb, ne_eqb, eqb-true, ltb-true, ltb-false, pow_pos, pow_mono, shr-shr}
 use Rattle.std.proofs.Math.Nat.{zero-div, div-eq_of_lt}
 use Rattle.std.proofs.lemmas.Bool.{eqb-false}
 use Rattle.std.proofs.Math.Dec.{eqb-zero-suc, eqb-suc-zero, eqb-suc-suc, leb-suc-zero, leb-suc-suc}
@@ -243,6 +243,16 @@ least_in_lem s f = go (ltb (count_trailing_zeros 32 s) 32) refl
     go : (z : Bool) → ltb (count_trailing_zeros 32 s) 32 ≡ z → (count_trailing_zeros 32 s < 32) × (has s (count_trailing_zeros 32 s) ≡ true)
     go true e = (ltb-true (count_trailing_zeros 32 s) 32 e, least_hit 32 s (ltb-true (count_trailing_zeros 32 s) 32 e))
     go false e = absurd (f (is_empty s (λ i l. none_before 32 s i (omega (arith, ltb-false (count_trailing_zeros 32 s) 32 e)))))
+
+-- a set without its least number is less, as a number
+pub least_less : (s : ℕ) → (s % 4294967296 ≡ 0 → ⊥) → without s (least_of s) < s
+unfolding without minus
+least_less s f =
+    let i : ℕ = least_of s in
+    let l : without s i ≤ s = and_le_l s (4294967295 - single i % 4294967296) in
+    let gone : has (without s i) i ≡ false = has_without s i i (least_in_lem s f).0 ∙ rw (eq-eqb i i refl) in
+    let n : without s i ≡ s → ⊥ = λ e. differ (sym (least_in_lem s f).1 ∙ ap (λ t. has t i) (sym e) ∙ gone) in
+    omega arith
 
 -- the lower bits of a set, with one bit more
 weighed : (b p : ℕ) → b < 2 → b * p ≡ (if eqb b 1 then p else 0)

@@ -16,6 +16,7 @@ pub fn read_full<S: Read>(stream: &mut S, buffer: &mut [u8]) -> io::Result<usize
     ensures err { OnErr result ((n : ℕ) × Consumes (S.remaining stream.old) (S.remaining stream.new) (take n buffer.new)) }
 {
     let mut done = 0;
+    // A turn goes on by as many bytes as its read gave, and the library's read_exact does not say how many came before the end.
     while done < buffer.len() {
         let read = stream.read(&mut buffer[done..])?;
         if read == 0 {

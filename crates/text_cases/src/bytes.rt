@@ -1,5 +1,4 @@
 // Every byte at one place of a small text, and every start of it.
-use crate::text_case;
 use cases::case;
 use image::{Image, Verdict};
 use std::io;
@@ -7,22 +6,22 @@ use std::io;
 // The smallest image, which is a header with one cell and a main of length 0, and after its 34 bytes one line more.
 fn small_text() -> [u8; 51] {
     let mut text = [b'0'; 51];
-    writer::write(&[0xa000_0000_0000_0001, 0xa100_0000_0000_0000], &mut text);
-    text_case::set_byte(&mut text, 50, 0x0a);
+    let _ = writer::write(&[0xa000_0000_0000_0001, 0xa100_0000_0000_0000], &mut text);
+    slots::put(&mut text, 50, 0x0a);
     text
 }
 
 fn first_read(text: &[u8], bytes: usize) -> Verdict {
     let mut table = [0u64; Image::LINES];
     if bytes <= text.len() {
-        return reader::read(&text[0..bytes], &mut table);
+        return reader::read(&text[..bytes], &mut table);
     }
     reader::read(text, &mut table)
 }
 
 fn retyped(at: usize, byte: u8) -> Verdict {
     let mut text = small_text();
-    text_case::set_byte(&mut text, at, byte);
+    slots::put(&mut text, at, byte);
     first_read(&text, 34)
 }
 

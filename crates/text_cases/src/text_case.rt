@@ -1,6 +1,4 @@
 // One case: a text is read or written, and the answer is printed after the case's label.
-ghost use Rattle.std.specs.Prelude.{◌≡◌, set};
-
 use crate::largest;
 use cases::case;
 use image::{Image, Verdict};
@@ -18,7 +16,7 @@ pub fn read_to(rt: &impl Print, label: &[u8], text: &[u8], words: usize) -> io::
     if table.len() < words {
         return Ok(());
     }
-    say(rt, label, reader::read(text, &mut table[0..words]))
+    say(rt, label, reader::read(text, &mut table[..words]))
 }
 
 pub fn read(rt: &impl Print, label: &[u8], text: &[u8]) -> io::Result<()> {
@@ -35,7 +33,7 @@ fn first_read_to(
     if text.len() < bytes {
         return Ok(());
     }
-    read_to(rt, label, &text[0..bytes], words)
+    read_to(rt, label, &text[..bytes], words)
 }
 
 pub fn largest_read_to(rt: &impl Print, label: &[u8], words: usize) -> io::Result<()> {
@@ -49,18 +47,10 @@ pub fn first_bytes(rt: &impl Print, label: &[u8], bytes: usize) -> io::Result<()
     first_read_to(rt, label, &text, bytes, Image::LINES)
 }
 
-pub fn set_byte(text: &mut [u8], at: usize, byte: u8)
-    ensures { text.new ≡ set text.old at byte }
-{
-    if at < text.len() {
-        text[at] = byte;
-    }
-}
-
 // The largest image's lines with one byte changed.
 pub fn changed_byte(rt: &impl Print, label: &[u8], at: usize, byte: u8) -> io::Result<()> {
     let mut text = largest::lines();
-    set_byte(&mut text, at, byte);
+    slots::put(&mut text, at, byte);
     first_read_to(rt, label, &text, 17 * Image::LINES, Image::LINES)
 }
 
@@ -70,7 +60,7 @@ pub fn written_to(rt: &impl Print, label: &[u8], table: &[u64], bytes: usize) ->
     if text.len() < bytes {
         return Ok(());
     }
-    say(rt, label, writer::write(table, &mut text[0..bytes]))
+    say(rt, label, writer::write(table, &mut text[..bytes]))
 }
 
 fn first_written_to(
@@ -83,7 +73,7 @@ fn first_written_to(
     if table.len() < frames {
         return Ok(());
     }
-    written_to(rt, label, &table[0..frames], bytes)
+    written_to(rt, label, &table[..frames], bytes)
 }
 
 pub fn largest_written_to(rt: &impl Print, label: &[u8], bytes: usize) -> io::Result<()> {

@@ -3,6 +3,9 @@ use crate::{bytes, text_case};
 use cases::case;
 use std::io;
 
+// The table of the smallest image.
+const SMALLEST: [u64; 2] = [0xa000_0000_0000_0001, 0xa100_0000_0000_0000];
+
 pub fn lines(rt: &impl Print) -> io::Result<()> {
     case::heading(rt, b"first and last lines of text")?;
     text_case::read(rt, b"empty input", b"")?;
@@ -55,30 +58,10 @@ fn room_to_read(rt: &impl Print) -> io::Result<()> {
 }
 
 fn room_to_write(rt: &impl Print) -> io::Result<()> {
-    text_case::written_to(
-        rt,
-        b"0 bytes, 2 frames",
-        &[0xa000_0000_0000_0001, 0xa100_0000_0000_0000],
-        0,
-    )?;
-    text_case::written_to(
-        rt,
-        b"33 bytes, 2 frames",
-        &[0xa000_0000_0000_0001, 0xa100_0000_0000_0000],
-        33,
-    )?;
-    text_case::written_to(
-        rt,
-        b"34 bytes, 2 frames",
-        &[0xa000_0000_0000_0001, 0xa100_0000_0000_0000],
-        34,
-    )?;
-    text_case::written_to(
-        rt,
-        b"35 bytes, 2 frames",
-        &[0xa000_0000_0000_0001, 0xa100_0000_0000_0000],
-        35,
-    )?;
+    text_case::written_to(rt, b"0 bytes, 2 frames", &SMALLEST, 0)?;
+    text_case::written_to(rt, b"33 bytes, 2 frames", &SMALLEST, 33)?;
+    text_case::written_to(rt, b"34 bytes, 2 frames", &SMALLEST, 34)?;
+    text_case::written_to(rt, b"35 bytes, 2 frames", &SMALLEST, 35)?;
     text_case::largest_written_to(rt, b"17,985 bytes, 1,058 frames", 17985)?;
     text_case::largest_written_to(rt, b"17,986 bytes, 1,058 frames", 17986)
 }

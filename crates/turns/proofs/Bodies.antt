@@ -1,11 +1,13 @@
 -- A run of plain instructions in the code is as many steps of the machine. Assumes nothing.
-use Prim.Native.Nat.{ℕ, zero, suc, ◌+◌, ◌-◌, ◌<◌}
+use Prim.Native.Nat.{ℕ, zero, suc, ◌+◌, ◌-◌, ◌≤◌, ◌<◌}
 use mathlib.Core.Path.{◌≡◌, refl, sym, ap, subst, ◌∙◌}
-use mathlib.Core.Bool.{Bool, true, false}
+use mathlib.Core.Bool.{Bool, true, false, ◌&&◌, ◌||◌}
+use mathlib.Core.Logic.{◌⊎◌, inl, inr, ⊎_elim}
+use Rattle.laws.specs.Choice.{and_left, and_right}
 use mathlib.Core.List.{List, [], ◌∷◌, ◌++◌}
 use native.Mathlib.Omega.{arith}
 use native.Mathlib.Numerals.{add-one}
-use borrow.Author.Tests.{ltb-true, ltb-false, lt-ltb, le-ltb}
+use borrow.Author.Tests.{leb-true, ltb-true, ltb-false, lt-ltb, le-ltb}
 use lib.Dec.{eqb, ltb, leb}
 use lib.ListN.{length, get_or, set, length-set}
 use lib.Seq.{get_or-set_same, set-set, set-append_left}
@@ -23,8 +25,13 @@ use Rattle.kernel.specs.Kernel.{nothing, ran, after, kernel}
 use Rattle.kernel.specs.Effect.{View, Effect, stops, sets, goes, does, stop_if, sets_to, goes_if, effect}
 use Rattle.kernel.specs.Machine.{Job, running, Machine, State, out}
 use Rattle.kernel.specs.Step.{due, paid, runs_on, perform, view, effect_of, advance, step, steps}
+use Rattle.kernel.specs.Demand.{is_stop}
+use Rattle.kernel.proofs.Stops.{RightResult, Sound, found_sound}
 use Rattle.kernel.proofs.Fits.{Fits, fits_step}
 use Rattle.kernel.proofs.Laws.{step_obeys, step_unpaid}
+use Rattle.ending.specs.declared.Ending.{Ending as Reason}
+use Rattle.ending.specs.declared.Ending.TheVariants.{NoBudgetLeft}
+use Rattle.ending.specs.Ending.{number_of as reason_number, ending_of, numbered}
 use Rattle.effect.specs.declared.Eff.{Eff}
 use Rattle.effect.specs.declared.Eff.TheVariants.{Put, Go, Stop, Leave}
 use Rattle.plain.specs.declared.End.{End}
@@ -82,44 +89,69 @@ pub data Tells (p : ℕ) : Eff → Effect → Type 0 where
   puts : (d x : ℕ) → Tells p (Put d x) (sets d x)
   jumps : (q : ℕ) → Tells p (Go q) (goes q)
   passes : Tells p (Go (p + 1)) (does nothing)
-  fails : (n : ℕ) → Tells p (Stop n) (stops n)
+  fails : (k : Reason) → Tells p (Stop k) (stops (reason_number k))
 
-tells_if : (p n : ℕ) (t : Bool) (x : Effect) → Tells p (as_eff p x) x → Tells p (as_eff p (stop_if t n x)) (stop_if t n x)
-tells_if p n true x h = fails n
-tells_if p n false x h = h
+-- each number that a plain instruction stops a run with has its reason
+known : (n : ℕ) → is_stop n ≡ true → reason_number (ending_of n) ≡ n
+known n e = numbered n (first n e) (last n e)
+  where
+    low : (a b : Bool) → a || b ≡ true → (a ≡ true) ⊎ (b ≡ true)
+    low true b q = inl refl
+    low false b q = inr q
 
-tells_result : (p d : ℕ) (r : Result) → Tells p (as_eff p (sets_to d r)) (sets_to d r)
-tells_result p d (value x) = puts d x
-tells_result p d (stop n) = fails n
+    first : (n : ℕ) → is_stop n ≡ true → 10 ≤ n
+    first n e = by (low (leb 12 n && leb n 19) (leb 22 n && leb n 23) e)
+      where
+        by : (leb 12 n && leb n 19 ≡ true) ⊎ (leb 22 n && leb n 23 ≡ true) → 10 ≤ n
+        by (inl q) = omega (arith, leb-true 12 n (and_left (leb 12 n) (leb n 19) q))
+        by (inr q) = omega (arith, leb-true 22 n (and_left (leb 22 n) (leb n 23) q))
+
+    last : (n : ℕ) → is_stop n ≡ true → n < 24
+    last n e = by (low (leb 12 n && leb n 19) (leb 22 n && leb n 23) e)
+      where
+        by : (leb 12 n && leb n 19 ≡ true) ⊎ (leb 22 n && leb n 23 ≡ true) → n < 24
+        by (inl q) = omega (arith, leb-true n 19 (and_right (leb 12 n) (leb n 19) q))
+        by (inr q) = omega (arith, leb-true n 23 (and_right (leb 22 n) (leb n 23) q))
+
+fails_with : (p n : ℕ) → is_stop n ≡ true → Tells p (Stop (ending_of n)) (stops n)
+fails_with p n e = subst (λ (k : ℕ). Tells p (Stop (ending_of n)) (stops k)) (known n e) (fails (ending_of n))
+
+tells_if : (p n : ℕ) → is_stop n ≡ true → (t : Bool) (x : Effect) → Tells p (as_eff p x) x → Tells p (as_eff p (stop_if t n x)) (stop_if t n x)
+tells_if p n e true x h = fails_with p n e
+tells_if p n e false x h = h
+
+tells_result : (p d : ℕ) (r : Result) → RightResult r → Tells p (as_eff p (sets_to d r)) (sets_to d r)
+tells_result p d (value x) e = puts d x
+tells_result p d (stop n) e = fails_with p n e
 
 tells_goes : (p x a b : ℕ) → Tells p (as_eff p (goes_if x a b)) (goes_if x a b)
 tells_goes p zero a b = jumps b
 tells_goes p (suc x) a b = jumps a
 
-pub tells : (v : View) (i : Frame) (m : Meaning) → is_plain m ≡ true → Tells v.place (as_eff v.place (effect v i m)) (effect v i m)
+pub tells : (v : View) (i : Frame) (m : Meaning) → is_plain m ≡ true → Sound m → Tells v.place (as_eff v.place (effect v i m)) (effect v i m)
 unfolding effect
-tells v i takes_imm e = puts i.d i.imm
-tells v i takes_input e = false_true e
-tells v i (one f) e = puts i.d (f (get_or v.cells i.a 0))
-tells v i (two f) e = puts i.d (f (get_or v.cells i.a 0) (get_or v.cells i.b 0))
-tells v i (may f) e = tells_result v.place i.d (f (get_or v.cells i.a 0) (get_or v.cells i.b 0))
-tells v i load e =
-    tells_if v.place 16 (leb i.b (get_or v.cells i.a 0)) (sets i.d (get_or v.cells (i.imm + get_or v.cells i.a 0) 0)) (puts _ _)
-tells v i store e =
-    tells_if v.place 16 (leb i.b (get_or v.cells i.a 0)) (sets (i.imm + get_or v.cells i.a 0) (get_or v.cells i.d 0)) (puts _ _)
-tells v i goto e = jumps i.imm
-tells v i goto_if e = tells_goes v.place (get_or v.cells i.a 0) i.imm (suc v.place)
-tells v i (holds n) e = tells_if v.place n (eqb (get_or v.cells i.a 0) 0) (does nothing) passes
-tells v i wait_event e = false_true e
-tells v i wait_time e = false_true e
-tells v i notify e = false_true e
-tells v i notify_after e = false_true e
-tells v i request e = false_true e
-tells v i suspend e = false_true e
-tells v i resume e = false_true e
-tells v i start_limit e = false_true e
-tells v i start e = false_true e
-tells v i unknown e = false_true e
+tells v i takes_imm e g = puts i.d i.imm
+tells v i takes_input e g = false_true e
+tells v i (one f) e g = puts i.d (f (get_or v.cells i.a 0))
+tells v i (two f) e g = puts i.d (f (get_or v.cells i.a 0) (get_or v.cells i.b 0))
+tells v i (may f) e g = tells_result v.place i.d (f (get_or v.cells i.a 0) (get_or v.cells i.b 0)) (g _ _)
+tells v i load e g =
+    tells_if v.place 16 refl (leb i.b (get_or v.cells i.a 0)) (sets i.d (get_or v.cells (i.imm + get_or v.cells i.a 0) 0)) (puts _ _)
+tells v i store e g =
+    tells_if v.place 16 refl (leb i.b (get_or v.cells i.a 0)) (sets (i.imm + get_or v.cells i.a 0) (get_or v.cells i.d 0)) (puts _ _)
+tells v i goto e g = jumps i.imm
+tells v i goto_if e g = tells_goes v.place (get_or v.cells i.a 0) i.imm (suc v.place)
+tells v i (holds n) e g = tells_if v.place n g (eqb (get_or v.cells i.a 0) 0) (does nothing) passes
+tells v i wait_event e g = false_true e
+tells v i wait_time e g = false_true e
+tells v i notify e g = false_true e
+tells v i notify_after e g = false_true e
+tells v i request e g = false_true e
+tells v i suspend e g = false_true e
+tells v i resume e g = false_true e
+tells v i start_limit e g = false_true e
+tells v i start e g = false_true e
+tells v i unknown e g = false_true e
 
 -- an accepted table's body b, and a state of the machine that runs it
 module _ (j : Job) (rest : List ℕ) (good : (judged j.table).number ≡ 0) (b : ℕ) (there : b < bodies j.table) where
@@ -223,10 +255,15 @@ module _ (j : Job) (rest : List ℕ) (good : (judged j.table).number ≡ 0) (b :
           rw st.counts.cells
           (goes_on y (p + 1) m.cells e st.counts.all_cells (obeys h y e (does nothing) f ∙ rw (runs_same body fits_body, place_is, ← add-one p)))
 
+  -- no op of the body stops the run with another number
+  sound_there : (p : ℕ) → p < len t b → Sound (meaning_of (frame t (first t b + p)).op)
+  unfolding bodies
+  sound_there p h = ⊎_elim (λ g. g) (λ e. absurd (e.1 good)) (found_sound t b p (omega (arith, there)) h)
+
   -- how a run of plain instructions ended, said of the machine's state then
   abbrev pub Ending : State → End → ℕ → Type 0
   Ending s Ended p = due j s body ≡ false
-  Ending s (Stopped k) p = step j s ≡ advance s (perform j s body (stops k))
+  Ending s (Stopped k) p = step j s ≡ advance s (perform j s body (stops (reason_number k)))
   Ending s Left p = (ltb p (len t b) ≡ true) × (paid j s ≡ true) × (is_plain (meaning_of (frame t (first t b + p)).op) ≡ false)
 
   pub record PlainRan (s : State) (n : Now) (l : Lists) (ps : List ℕ) (o : PlainOut) : Type 0 where
@@ -244,7 +281,7 @@ module _ (j : Job) (rest : List ℕ) (good : (judged j.table).number ≡ 0) (b :
     unfolding plain plain_effect steps
     ran_plain zero p cs s st = go (ltb p (len t b)) refl
       where
-        go : (z : Bool) → ltb p (len t b) ≡ z → PlainRan s n l ps (when z (λ _. plain_out (Stopped 22) p 0 cs) (plain_out Ended p 0 cs))
+        go : (z : Bool) → ltb p (len t b) ≡ z → PlainRan s n l ps (when z (λ _. plain_out (Stopped NoBudgetLeft) p 0 cs) (plain_out Ended p 0 cs))
         go true h = record { more = 0; stands = st; ending = step_unpaid j s body (sym st.counts.control) (due_is s n l ps cs zero p st ∙ h) (paid_is s n l ps cs zero p st ∙ le-ltb 0 0 (omega arith)) }
         go false h = record { more = 0; stands = st; ending = due_is s n l ps cs zero p st ∙ h }
     ran_plain (suc y) p cs s st = go (ltb p (len t b)) refl (λ q ds s' st'. ran_plain y q ds s' st')
@@ -266,10 +303,10 @@ module _ (j : Job) (rest : List ℕ) (good : (judged j.table).number ≡ 0) (b :
         by_told again h f e (puts d v) q = later s _ (again (p + 1) (set cs d v) (step j s) (sets_on s n l ps cs (suc y) p st h y refl d v q))
         by_told again h f e (jumps r) q = later s _ (again r cs (step j s) (goes_to_place s n l ps cs (suc y) p st h y refl r q))
         by_told again h f e passes q = later s _ (again (p + 1) cs (step j s) (passes_on s n l ps cs (suc y) p st h y refl q))
-        by_told again h f e (fails k) q = record { more = 0; stands = st; ending = obeys s n l ps cs (suc y) p st h y refl (stops k) q }
+        by_told again h f e (fails k) q = record { more = 0; stands = st; ending = obeys s n l ps cs (suc y) p st h y refl (stops (reason_number k)) q }
 
         by_plain : Again → ltb p (len t b) ≡ true → (z : Bool) → is_plain (meaning_of i.op) ≡ z → PlainRan s n l ps (after_eff (if z then as_eff p (effect (seen p cs) i (meaning_of i.op)) else Leave) (plain y t (first t b) (len t b)) p (suc y) cs)
-        by_plain again h true z = by_told again h _ _ (tells (seen p cs) i (meaning_of i.op) z) (is z h)
+        by_plain again h true z = by_told again h _ _ (tells (seen p cs) i (meaning_of i.op) z (sound_there p (ltb-true p (len t b) h))) (is z h)
         by_plain again h false z = record { more = 0; stands = st; ending = (h, paid_is s n l ps cs (suc y) p st ∙ lt-ltb 0 (suc y) (omega arith), z) }
 
         go : (z : Bool) → ltb p (len t b) ≡ z → Again → PlainRan s n l ps (when z (λ _. after_eff (if is_plain (meaning_of i.op) then as_eff p (effect (seen p cs) i (meaning_of i.op)) else Leave) (plain y t (first t b) (len t b)) p (suc y) cs) (plain_out Ended p (suc y) cs))

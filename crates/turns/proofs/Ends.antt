@@ -23,8 +23,10 @@ use Rattle.shows.specs.Shows.{kept, Few as Room}
 use Rattle.shows.proofs.Asks.{not_ended_is}
 use Rattle.shows.proofs.Serves.{first_shows}
 use Rattle.turns.specs.declared.Control.{Control}
+use Rattle.ending.specs.declared.Ending.{Ending as Reason}
+use Rattle.ending.specs.Ending.{number_of as reason_number}
 use Rattle.turns.specs.declared.Control.TheVariants.{Runs, UpdatePhase, DeltaPhase, Turn, Evaluation, TimePhase, Over}
-use Rattle.turns.specs.Stands.{place_of, limit_of, stage_of, body_of}
+use Rattle.turns.specs.Stands.{place_of, body_of}
 use Rattle.turns.specs.Code.{Code, code, turn, turns, answer_as, answer_from, answered, told, first_now, first_ran, first_lists}
 use Rattle.turns.proofs.Turns.{StandsAt, Reaches, Given, plain_turn, turn_follows}
 use Rattle.turns.proofs.Bodies.{PlainRan}
@@ -61,7 +63,7 @@ is_done evaluation = false
 is_done time_phase = false
 
 module _ (j : Job) (lent rest : List ℕ) (r : rest ≡ drop (cells j.table) lent) (s : State) (c : Code) (st : StandsAt j rest s c) (z : Few j s.machine) (small : j.budget < 4294967296) (short : length j.choices ≤ 4096) where
-  told_as : (k b p : ℕ) → (b < 4294967296) × (p < 4294967296) → ends j lent s k b p ≡ record { answer = answer_as j.budget c.now k b p; cells = c.cells }
+  told_as : (k : Reason) → (b p : ℕ) → (b < 4294967296) × (p < 4294967296) → ends j lent s (reason_number k) b p ≡ record { answer = answer_as j.budget c.now k b p; cells = c.cells }
   told_as k b p h =
       let x : b % 4294967296 ≡ b = omega (arith, h.0) in
       let y : p % 4294967296 ≡ p = omega (arith, h.1) in
@@ -122,7 +124,7 @@ abbrev pub first_code : Job → (rest : List ℕ) → Code
 first_code j rest = code (first_now (threads j.table) j.budget) (first_lists (threads j.table) (events j.table)) (replicate (bodies j.table) 0) (replicate (cells j.table) 0 ++ rest)
 
 pub first_stands : (j : Job) (rest : List ℕ) → (judged j.table).number ≡ 0 → StandsAt j rest (init j) (first_code j rest)
-unfolding kernel limit_of stage_of body_of
+unfolding kernel body_of
 first_stands j rest good = record {
   shows = first_shows j.table (few_all j.table good);
   counts = record {

@@ -4,3 +4,4 @@ pub mod Bodies
 pub mod Obeys
 pub mod Turns
 pub mod Ends
+pub mod Threads

@@ -5,11 +5,11 @@ use mathlib.Core.Bool.{Bool, true, false}
 use mathlib.Core.List.{List, [], ◌∷◌, ◌++◌, append_assoc}
 use native.Mathlib.Omega.{arith}
 use native.Mathlib.Numerals.{add-one}
-use borrow.Author.Tests.{eqb-true, eqb-false, ltb-true, ltb-false, lt-ltb, le-ltb}
+use borrow.Author.Tests.{eqb-true, eqb-false, ltb-true, lt-ltb, le-ltb}
 use lib.Dec.{eqb, ltb}
 use lib.ListN.{length, get_or, set, length-set}
 use lib.Seq.{get_or-set_same, get_or-set_other}
-use Rattle.std.specs.Prelude.{if◌then◌else◌}
+use Rattle.std.specs.Prelude.{if◌then◌else◌, Option, Some, None}
 use Rattle.laws.specs.Choice.{and_left}
 use Rattle.image.specs.Layout.{bodies}
 use Rattle.kernel.specs.Search.{Found, none, found, nth, any, first, edit}
@@ -28,10 +28,13 @@ use Rattle.shows.proofs.Asks.{may_run_lem, any_run, asked_first, least_time_lem,
 use Rattle.shows.proofs.Happens.{shows_again}
 use Rattle.shows.proofs.Serves.{serves_delta as shows_delta, serves_time as shows_time}
 use Rattle.turns.specs.declared.Control.{Control}
+use Rattle.ending.specs.declared.Ending.TheVariants.{NoChoiceLeft, NotRunnable}
 use Rattle.turns.specs.declared.Control.TheVariants.{Runs, UpdatePhase, DeltaPhase, Evaluation, TimePhase, Over}
 use Rattle.turns.specs.declared.Now.{Now}
+use Rattle.turns.specs.declared.Stage.{Stage}
+use Rattle.turns.specs.declared.Stage.TheVariants.{Quiet, Limited}
 use Rattle.turns.specs.Stands.{body_of, place_of, limit_of, stage_of, Stands}
-use Rattle.turns.specs.Code.{goes_to, dispatch, chosen_by, evaluated, enters_to, enters_at, delta_to, delta_in, least_of, closed, moved_to, served_at, timed_by, served_by}
+use Rattle.turns.specs.Code.{goes_to, dispatch, chosen_by, evaluated, enters_to, enters_at, delta_to, delta_in, least_of, closed, moved_to, is_beyond, served_at, timed_by, served_by}
 
 -- one element changed, and what it stands for changed alike
 pub edited : {A : Type 0} (dec : ℕ → A) (g : ℕ → A) (f : A → A) (l : List ℕ) (n i v : ℕ) → length l ≡ n → ((e : ℕ) → e < n → dec (get_or l e 0) ≡ g e) → (i < n → dec v ≡ f (dec (get_or l i 0)))
@@ -76,8 +79,8 @@ module _ (j : Job) (rest : List ℕ) (s : State) (n : Now) (l : Lists) (ps cs : 
       stood : m.control ≡ evaluation
       stood = sym st.counts.control ∙ here
 
-      by_choice : any (runnable t k) (threads t) ≡ true → (c : ℕ) → nth j.choices m.choices ≡ found c → (b : Bool) → runnable t k c ≡ b → Stands j rest (step j s) (if b then dispatch c n else goes_to (Over 21 0xff 0) n) l ps cs
-      by_choice a c e false r = goes_to_lem (Over 21 0xff 0) (over 21 0xff 0) refl (step_refuses j s c stood a e r)
+      by_choice : any (runnable t k) (threads t) ≡ true → (c : ℕ) → nth j.choices m.choices ≡ found c → (b : Bool) → runnable t k c ≡ b → Stands j rest (step j s) (if b then dispatch c n else goes_to (Over NotRunnable 0xff 0) n) l ps cs
+      by_choice a c e false r = goes_to_lem (Over NotRunnable 0xff 0) (over 21 0xff 0) refl (step_refuses j s c stood a e r)
       by_choice a c e true r =
           let d : step j s ≡ advance s (out (dispatched c ∷ []) (go_to (running (thread c)) (chose m))) = step_dispatches j s c stood a e r in
           let f : Fits t (kernel (step j s).history) (step j s).machine.control = fits_step j s st.fits in
@@ -97,7 +100,7 @@ module _ (j : Job) (rest : List ℕ) (s : State) (n : Now) (l : Lists) (ps cs : 
       next f e = ap (nth j.choices) (sym st.counts.choices) ∙ e
 
       chosen : any (runnable t k) (threads t) ≡ true → (f : Found) → nth j.choices n.chosen ≡ f → Stands j rest (step j s) (chosen_by f n) l ps cs
-      chosen a none e = goes_to_lem (Over 20 0xff 0) (over 20 0xff 0) refl (step_unchosen j s stood a (next none e))
+      chosen a none e = goes_to_lem (Over NoChoiceLeft 0xff 0) (over 20 0xff 0) refl (step_unchosen j s stood a (next none e))
       chosen a (found c) e = rw (may_run_lem t k (kept n.marks l) st.shows c) (by_choice a c (next (found c) e) (runnable t k c) refl)
 
       some : (b : Bool) → any (runnable t k) (threads t) ≡ b → Stands j rest (step j s) (if any_runs n.marks then chosen_by (nth j.choices n.chosen) n else goes_to UpdatePhase n) l ps cs
@@ -155,7 +158,7 @@ module _ (j : Job) (rest : List ℕ) (s : State) (n : Now) (l : Lists) (ps cs : 
             fits = g;
           })
 
-  closes : (x : Happening) (v : ℕ) → step j s ≡ advance s (out (x ∷ []) (go_to (running main) m)) → Shows t (after x k) (kept n.marks l) → (after x k).now ≡ k.now → (after x k).limit ≡ k.limit → stage_of v ≡ (after x k).stage → Stands j rest (step j s) (closed v n) l ps cs
+  closes : (x : Happening) (v : Stage) → step j s ≡ advance s (out (x ∷ []) (go_to (running main) m)) → Shows t (after x k) (kept n.marks l) → (after x k).now ≡ k.now → (after x k).limit ≡ k.limit → stage_of v ≡ (after x k).stage → Stands j rest (step j s) (closed v n) l ps cs
   unfolding kernel body_of
   closes x v d a b c e =
       let o = st.counts in
@@ -181,24 +184,23 @@ module _ (j : Job) (rest : List ℕ) (s : State) (n : Now) (l : Lists) (ps cs : 
 
   -- Time
   pub times : place_of (threads t) n.control ≡ time_phase → Stands j rest (step j s) (timed_by (least_of l) n l) (served_by (least_of l) n l) ps cs
-  unfolding after stage_of limit_of
+  unfolding after
   times here = by (least_of l) refl
     where
       stood : m.control ≡ time_phase
       stood = sym st.counts.control ∙ here
 
-      -- a limit that is none is above every due time
-      over_limit : (d : ℕ) → d ≤ 4294967295 → (b : Bool) → ltb n.limit 4294967296 ≡ b → above d (if b then found n.limit else none) ≡ ltb n.limit d
-      over_limit d h true w = refl
-      over_limit d h false w = sym (le-ltb n.limit d (omega (arith, ltb-false n.limit 4294967296 w)))
+      same_limit : (d : ℕ) (v : Option ℕ) → above d (limit_of v) ≡ is_beyond v d
+      same_limit d None = refl
+      same_limit d (Some v) = refl
 
-      by_limit : (d : ℕ) → least_time t k ≡ found d → d ≤ 4294967295 → (b : Bool) → ltb n.limit d ≡ b → Stands j rest (step j s) (if b then closed 3 n else moved_to d (served_time (d + 1) l.pends l.waits l.waiters n.marks) n) (if b then l else served_at d l) ps cs
+      by_limit : (d : ℕ) → least_time t k ≡ found d → d ≤ 4294967295 → (b : Bool) → is_beyond n.limit d ≡ b → Stands j rest (step j s) (if b then closed Limited n else moved_to d (served_time (d + 1) l.pends l.waits l.waiters n.marks) n) (if b then l else served_at d l) ps cs
       by_limit d e h true w =
-          closes limited 3 (step_limits j s d stood e (rw (← st.counts.limit) (over_limit d h (ltb n.limit 4294967296) refl ∙ w))) (shows_again t k (kept n.marks l) st.shows (after limited k) refl refl refl) refl refl refl
+          closes limited Limited (step_limits j s d stood e (rw (← st.counts.limit) (same_limit d n.limit ∙ w))) (shows_again t k (kept n.marks l) st.shows (after limited k) refl refl refl) refl refl refl
       by_limit d e h false w =
-          moves d h (step_moves j s d stood e (rw (← st.counts.limit) (over_limit d h (ltb n.limit 4294967296) refl ∙ w)))
+          moves d h (step_moves j s d stood e (rw (← st.counts.limit) (same_limit d n.limit ∙ w)))
 
       by : (f : Found) → least_of l ≡ f → Stands j rest (step j s) (timed_by f n l) (served_by f n l) ps cs
-      by none e = closes quiet 2 (step_quiets j s stood (sym (least_time_lem t k (kept n.marks l) st.shows) ∙ e)) (shows_again t k (kept n.marks l) st.shows (after quiet k) refl refl refl) refl refl refl
+      by none e = closes quiet Quiet (step_quiets j s stood (sym (least_time_lem t k (kept n.marks l) st.shows) ∙ e)) (shows_again t k (kept n.marks l) st.shows (after quiet k) refl refl refl) refl refl refl
       by (found d) e =
-          by_limit d (sym (least_time_lem t k (kept n.marks l) st.shows) ∙ e) (due_small l.pends l.waits d e) (ltb n.limit d) refl
+          by_limit d (sym (least_time_lem t k (kept n.marks l) st.shows) ∙ e) (due_small l.pends l.waits d e) (is_beyond n.limit d) refl

@@ -9,7 +9,7 @@ use borrow.Author.Tests.{ltb-true, ltb-false, lt-ltb, le-ltb, le-leb, lt-leb, eq
 use lib.Dec.{eqb, ltb, leb}
 use lib.ListN.{length, get_or, set, length-set}
 use lib.Seq.{set-append_left}
-use Rattle.std.specs.Prelude.{if◌then◌else◌}
+use Rattle.std.specs.Prelude.{if◌then◌else◌, Option, Some, None, Ok}
 use Rattle.laws.specs.Choice.{between, and_left, and_right}
 use Rattle.frame.specs.declared.Frame.{Frame}
 use Rattle.frame.specs.Ops.{Meaning, takes_imm, takes_input, one, two, may, load, store, goto, goto_if, holds, wait_event, wait_time, notify, notify_after, request, suspend, resume, start_limit, start, unknown, meaning_of}
@@ -34,11 +34,16 @@ use Rattle.shows.specs.Shows.{Lists, Kept, kept, Shows}
 use Rattle.shows.proofs.Asks.{may_run_lem, times_are, never_is}
 use Rattle.shows.proofs.Happens.{shows_again, shows_trigger, shows_asks, shows_requests, shows_waits_on, shows_waits_till, shows_suspends, shows_resumes}
 use Rattle.turns.specs.declared.Control.{Control}
+use Rattle.ending.specs.declared.Ending.{Ending as Reason}
+use Rattle.ending.specs.declared.Ending.TheVariants.{UnknownOp, TooLate, OutOfPhase, NoInputLeft, TooManyDueTimes}
+use Rattle.ending.specs.Ending.{number_of as reason_number}
 use Rattle.turns.specs.declared.Control.TheVariants.{Runs, Evaluation, Over}
 use Rattle.turns.specs.declared.Now.{Now}
-use Rattle.turns.specs.declared.Obeyed.TheVariants.{Stops, Goes, Waits, Took, Begins}
+use Rattle.turns.specs.declared.Obeyed.TheVariants.{Goes, Waits, Took, Begins}
+use Rattle.turns.specs.declared.Stage.{Stage as StageCode}
+use Rattle.turns.specs.declared.Stage.TheVariants.{Before, During, Quiet, Limited}
 use Rattle.turns.specs.Stands.{body_of, place_of, limit_of, stage_of, Stands}
-use Rattle.turns.specs.Code.{goes_to, marks_to, with_left, Did, did, is_thread, wait_came, is_past, waited_on, waited_till, adds_time, times_in, due_by, took_by, in_time, starts_by, obeyed, stays_at, next_input, completed_to, completed_at}
+use Rattle.turns.specs.Code.{goes_to, marks_to, with_left, Did, did, stopped, is_thread, wait_came, is_past, waited_on, waited_till, adds_time, times_in, due_by, took_by, in_time, starts_by, obeyed, stays_at, next_input, completed_to, completed_at}
 use Rattle.turns.proofs.Cells.{seeing, Within}
 use Rattle.turns.proofs.Moves.{edited, goes_to_lem}
 use Rattle.turns.proofs.Bodies.{number_of, cells_of, place_is, effect_is, effect_within, obeys}
@@ -63,12 +68,12 @@ ran_numbers f h b (suspends i) k = h _ k refl refl refl
 ran_numbers f h b (resumes i) k = h _ k refl refl refl
 
 -- the tests of the code and of the definition
-past_is : (t b v : ℕ) → main_past (body_of t b) (stage_of v) ≡ is_past b v
-unfolding body_of stage_of
-past_is t zero zero = sym (lt-leb 2 0 (omega arith))
-past_is t zero (suc zero) = sym (lt-leb 2 1 (omega arith))
-past_is t zero (suc (suc zero)) = sym (le-leb 2 2 (omega arith))
-past_is t zero (suc (suc (suc v))) = sym (le-leb 2 (suc (suc (suc v))) (omega arith))
+past_is : (t b : ℕ) (v : StageCode) → main_past (body_of t b) (stage_of v) ≡ is_past b v
+unfolding body_of
+past_is t zero Before = refl
+past_is t zero During = refl
+past_is t zero Quiet = refl
+past_is t zero Limited = refl
 past_is t (suc k) v = rw (ne_eqb (suc k) 0 (λ e. omega arith)) (by (ltb k t))
   where
     by : (z : Bool) → main_past (if z then thread k else update (k - t)) (stage_of v) ≡ false
@@ -127,11 +132,11 @@ module _ (j : Job) (rest : List ℕ) (good : (judged j.table).number ≡ 0) (b :
   unfoldable pub Follows : Did → Type 0
   Follows d = Stands j rest (step j s) (completed_to (threads t) (length j.inputs) b p d.came d.kept.marks now) d.kept.lists (completed_at b p d.came (set ps b p)) d.cells
 
-  stops_run : (c : ℕ) → effect_of j s body ≡ stops c → Follows (did (Stops c) x cs)
+  stops_run : (c : Reason) → effect_of j s body ≡ stops (reason_number c) → Follows (stopped c x cs)
   unfolding Follows perform
   stops_run c f =
-      goes_to_lem j rest s now l (set ps b p) cs st (Over c b p) (over c (number t body) (m.places (number t body)))
-      (rw (placed_at, number_of t b)) (step_is (stops c) f)
+      goes_to_lem j rest s now l (set ps b p) cs st (Over c b p) (over (reason_number c) (number t body) (m.places (number t body)))
+      (rw (placed_at, number_of t b)) (step_is (stops (reason_number c)) f)
 
   -- where a body stands after what it asked of the kernel
   stays : (d : Deed) (x' : Kept) → Shows t (after (ran body d) k) x' → place_of (threads t) (stays_at (threads t) b x'.marks) ≡ runs_on j s body (kernel (ran body d ∷ s.history))
@@ -180,19 +185,19 @@ module _ (j : Job) (rest : List ℕ) (good : (judged j.table).number ≡ 0) (b :
       let e = step_is (takes d v) f in
       let w : d < (counts t).cells = subst (Within (counts t).cells) f (effect_within j rest good b there s n l ps cs (suc y) p st (ltb-true p (len t b) h)) in
       let c : set cs d v ≡ set m.cells d v ++ rest = rw o.cells (set-append_left m.cells rest d v (omega (arith, o.all_cells))) in
-      subst (λ (z : State). Stands j rest z (completed_to (threads t) (length j.inputs) b p Took n.marks now) l (set (set ps b p) b (p + 1)) (set cs d v)) (sym e)
+      subst (λ (z : State). Stands j rest z (completed_to (threads t) (length j.inputs) b p (Ok Took) n.marks now) l (set (set ps b p) b (p + 1)) (set cs d v)) (sym e)
       (record {
         shows = st.shows;
         counts = record { control = refl; time = o.time; limit = o.limit; stage = o.stage; instructions = left_is; choices = o.choices; inputs = rw (lt-ltb n.taken (length j.inputs) z, add-one n.taken) (ap suc o.inputs); places = next_place; all_places = all_places; cells = c; all_cells = length-set m.cells d v ∙ o.all_cells };
         fits = fits_at _ e;
       })
 
-  begins_phase : (v : ℕ) (g : Found) → limit_of v ≡ g → effect_of j s body ≡ begins g → Follows (did (Begins v) x cs)
-  unfolding Follows perform kernel after stage_of
+  begins_phase : (v : Option ℕ) (g : Found) → limit_of v ≡ g → effect_of j s body ≡ begins g → Follows (did (Begins v) x cs)
+  unfolding Follows perform kernel after
   begins_phase v g q f =
       let o = st.counts in
       let d = step_is (begins g) f in
-      subst (λ (z : State). Stands j rest z (completed_to (threads t) (length j.inputs) b p (Begins v) n.marks now) l (set (set ps b p) b (p + 1)) cs) (sym d)
+      subst (λ (z : State). Stands j rest z (completed_to (threads t) (length j.inputs) b p (Ok (Begins v)) n.marks now) l (set (set ps b p) b (p + 1)) cs) (sym d)
       (record {
         shows = shows_again t k x st.shows (after (began g) k) refl refl refl;
         counts = record { control = refl; time = o.time; limit = q; stage = refl; instructions = left_is; choices = o.choices; inputs = o.inputs; places = next_place; all_places = all_places; cells = o.cells; all_cells = o.all_cells };
@@ -268,12 +273,12 @@ module _ (j : Job) (rest : List ℕ) (good : (judged j.table).number ≡ 0) (b :
       same_late true e = lt-ltb 4294967295 u (omega (arith, ltb-true last_time (suc u) e))
       same_late false e = le-ltb 4294967295 u (omega (arith, ltb-false last_time (suc u) e))
 
-      room : ltb last_time (suc u) ≡ false → (z : Bool) → (adds && leb 48 (times_in l)) ≡ z → effect_of j s body ≡ stop_if z 23 (does d) → Follows (if z then did (Stops 23) x cs else a)
-      room e true r g = stops_run 23 g
+      room : ltb last_time (suc u) ≡ false → (z : Bool) → (adds && leb 48 (times_in l)) ≡ z → effect_of j s body ≡ stop_if z 23 (does d) → Follows (if z then stopped TooManyDueTimes x cs else a)
+      room e true r g = stops_run TooManyDueTimes g
       room e false r g = w (ltb-false last_time (suc u) e) g
 
-      late : (z : Bool) → ltb last_time (suc u) ≡ z → Follows (if z then did (Stops 17) x cs else (if not (eqb (suc u) 0) && (adds && leb 48 (times_in l)) then did (Stops 23) x cs else a))
-      late true e = stops_run 17 (f ∙ rw (same_late true e))
+      late : (z : Bool) → ltb last_time (suc u) ≡ z → Follows (if z then stopped TooLate x cs else (if not (eqb (suc u) 0) && (adds && leb 48 (times_in l)) then stopped TooManyDueTimes x cs else a))
+      late true e = stops_run TooLate (f ∙ rw (same_late true e))
       late false e =
           rw (ne_eqb (suc u) 0 (λ z. omega arith))
           (room e (adds && leb 48 (times_in l)) refl (f ∙ rw (same_late false e, times_are t k x st.shows)))
@@ -285,8 +290,8 @@ module _ (j : Job) (rest : List ℕ) (good : (judged j.table).number ≡ 0) (b :
       same : main_past body k.stage ≡ is_past b n.stage
       same = rw (← st.counts.stage) (past_is T b n.stage)
 
-      by : (z : Bool) → is_past b n.stage ≡ z → Follows (if z then did (Stops 18) x cs else d)
-      by true q = stops_run 18 (f ∙ rw (same ∙ q))
+      by : (z : Bool) → is_past b n.stage ≡ z → Follows (if z then stopped OutOfPhase x cs else d)
+      by true q = stops_run OutOfPhase (f ∙ rw (same ∙ q))
       by false q = w (f ∙ rw (same ∙ q))
 
   -- Each instruction ----------------------------------------------------------------------------------------------
@@ -305,18 +310,17 @@ module _ (j : Job) (rest : List ℕ) (good : (judged j.table).number ≡ 0) (b :
   takes_by f e g = by f e (g ∙ ap (takes_to i.d) (ap (nth j.inputs) (sym st.counts.inputs) ∙ e))
     where
       by : (f : Found) → nth j.inputs n.taken ≡ f → effect_of j s body ≡ takes_to i.d f → Follows (took_by f i.d x cs)
-      by none e r = stops_run 19 r
+      by none e r = stops_run NoInputLeft r
       by (found v) e r = takes_input_lem i.d v (nth_some j.inputs n.taken v e) r
 
-  starts_by_lem : (v : ℕ) (r : Found) → limit_of v ≡ r → effect_of j s body ≡ starts_in k.stage r → Follows (starts_by n.stage v x cs)
-  unfolding stage_of
-  starts_by_lem v r e f = by n.stage (f ∙ ap (λ (g : Stage). starts_in g r) (sym st.counts.stage))
+  starts_by_lem : (v : Option ℕ) → effect_of j s body ≡ starts_in k.stage (limit_of v) → Follows (starts_by n.stage v x cs)
+  starts_by_lem v f = by n.stage (f ∙ ap (λ (g : Stage). starts_in g (limit_of v)) (sym st.counts.stage))
     where
-      by : (g : ℕ) → effect_of j s body ≡ starts_in (stage_of g) r → Follows (if eqb g 0 then did (Begins v) x cs else did (Stops 18) x cs)
-      by zero w = begins_phase v r e w
-      by (suc zero) w = stops_run 18 w
-      by (suc (suc zero)) w = stops_run 18 w
-      by (suc (suc (suc g))) w = rw (ne_eqb (suc (suc (suc g))) 0 (λ z. omega arith)) (stops_run 18 w)
+      by : (g : StageCode) → effect_of j s body ≡ starts_in (stage_of g) (limit_of v) → Follows (starts_by g v x cs)
+      by Before w = begins_phase v (limit_of v) refl w
+      by During w = stops_run OutOfPhase w
+      by Quiet w = stops_run OutOfPhase w
+      by Limited w = stops_run OutOfPhase w
 
   abbrev obeyed_as : Meaning → Did
   obeyed_as a = obeyed T b i now j.inputs x cs a
@@ -324,14 +328,6 @@ module _ (j : Job) (rest : List ℕ) (good : (judged j.table).number ≡ 0) (b :
   -- what the judge says of the event or update that an instruction names
   names : (a : Meaning) → meaning_of i.op ≡ a → InCells (counts t) i a
   names a e = subst (InCells (counts t) i) e (cells_of j rest good b there p (ltb-true p (len t b) h))
-
-  limit_small : limit_of i.imm ≡ found i.imm
-  unfolding limit_of
-  limit_small = rw (lt-ltb i.imm 4294967296 (omega arith))
-
-  limit_none : limit_of 4294967296 ≡ none
-  unfolding limit_of
-  limit_none = refl
 
   pub follows_by : (a : Meaning) → meaning_of i.op ≡ a → is_plain a ≡ false → Follows (obeyed_as a)
   unfolding obeyed effect after
@@ -353,9 +349,9 @@ module _ (j : Job) (rest : List ℕ) (good : (judged j.table).number ≡ 0) (b :
       in_time_lem (does (suspends i.d)) _ (seen_as _ (rw e)) (λ f. does_asked (suspends i.d) _ f (shows_suspends t k x st.shows i.d))
   follows_by resume e z =
       in_time_lem (does (resumes i.d)) _ (seen_as _ (rw e)) (λ f. does_asked (resumes i.d) _ f (shows_resumes t k x st.shows i.d))
-  follows_by start_limit e z = starts_by_lem i.imm (found i.imm) limit_small (seen_as _ (rw e))
-  follows_by start e z = starts_by_lem 4294967296 none limit_none (seen_as _ (rw e))
-  follows_by unknown e z = stops_run 4 (seen_as _ (rw e))
+  follows_by start_limit e z = starts_by_lem (Some i.imm) (seen_as _ (rw e))
+  follows_by start e z = starts_by_lem None (seen_as _ (rw e))
+  follows_by unknown e z = stops_run UnknownOp (seen_as _ (rw e))
   follows_by takes_imm e z = false_true z
   follows_by (one f) e z = false_true z
   follows_by (two f) e z = false_true z

@@ -1,5 +1,5 @@
 -- What the code makes of its numbers, turn by turn. Nothing public speaks of it: proofs/ shows that each turn is some steps of the machine.
-use Rattle.std.specs.Prelude.{ℕ, zero, suc, ◌+◌, ◌-◌, ◌%◌, Bool, true, false, not, ◌&&◌, List, [], ◌∷◌, map, eqb, ltb, leb, length, get_or, set, replicate, if◌then◌else◌}
+use Rattle.std.specs.Prelude.{◌≡◌, ℕ, zero, suc, ◌+◌, ◌-◌, ◌%◌, Bool, true, false, not, ◌&&◌, List, [], ◌∷◌, map, eqb, ltb, leb, length, get_or, set, replicate, if◌then◌else◌, Option, Some, None, Result, Ok, Err}
 use Rattle.laws.specs.Choice.{between}
 use Rattle.frame.specs.declared.Frame.{Frame}
 use Rattle.frame.specs.Fields.{fields}
@@ -13,16 +13,22 @@ use Rattle.marks.specs.Marks.{may_run, any_runs, first_asked, not_ended, first_m
 use Rattle.dues.specs.Dues.{time_at, count_at, ask_code, waits_at, changed, asked_code, over_code, due_in}
 use Rattle.waits.specs.Waits.{triggered}
 use Rattle.phases.specs.Phases.{cleared_by, served_delta, served_time}
+use Rattle.ending.specs.declared.Ending.{Ending}
+use Rattle.ending.specs.declared.Ending.TheVariants.{Quiet as QuietEnding, UnknownOp, Limit, NoStart, TooLate, OutOfPhase, NoInputLeft, NoChoiceLeft, NotRunnable, TooManyDueTimes}
+use Rattle.ending.specs.Ending.{number_of}
 use Rattle.plain.specs.declared.End.{End}
 use Rattle.plain.specs.declared.End.TheVariants.{Ended, Left, Stopped}
 use Rattle.plain.specs.Plain.{Out, run_plain}
 use Rattle.turns.specs.declared.Control.{Control}
 use Rattle.turns.specs.declared.Control.TheVariants.{Runs, UpdatePhase, DeltaPhase, Turn, Evaluation, TimePhase, Over}
-use Rattle.turns.specs.declared.Choice.{Choice}
-use Rattle.turns.specs.declared.Choice.TheVariants.{Thread, Refused}
 use Rattle.turns.specs.declared.Now.{Now}
 use Rattle.turns.specs.declared.Obeyed.{Obeyed}
-use Rattle.turns.specs.declared.Obeyed.TheVariants.{Stops, Goes, Waits, Took, Begins}
+use Rattle.turns.specs.declared.Obeyed.TheVariants.{Goes, Waits, Took, Begins}
+use Rattle.turns.specs.declared.Done.{Done}
+use Rattle.turns.specs.declared.Stage.{Stage}
+use Rattle.turns.specs.declared.Stage.TheVariants.{Before, During, Quiet, Limited}
+use Rattle.turns.specs.declared.Job.{Job}
+use Rattle.turns.specs.declared.State.{State}
 use Rattle.shows.specs.Shows.{Lists, lists, Kept, kept}
 
 -- all of the code's state
@@ -35,35 +41,56 @@ pub record Code : Type 0 where
 abbrev pub code : Now → Lists → (places cells : List ℕ) → Code
 code n l ps cs = record { now = n; lists = l; places = ps; cells = cs }
 
+-- what is lent, with the single numbers and the cells
+abbrev pub lists_of : State → Lists
+lists_of s = lists s.pends.now s.waits.now s.waiters.now
+
+abbrev pub kept_of : Now → State → Kept
+kept_of n s = kept n.marks (lists_of s)
+
+abbrev pub code_of : Now → State → (cells : List ℕ) → Code
+code_of n s cs = code n (lists_of s) s.places.now cs
+
+-- there are as many threads as waits for a time
+abbrev pub threads_of : State → ℕ
+threads_of s = length s.waits.now
+
+-- the slices that b lends are those that a lent, so that who lent them learns what became of them
+abbrev pub SameSlices : (a b : State) → Type 0
+SameSlices a b =
+    (b.pends.ghost_name ≡ a.pends.ghost_name) × (b.waits.ghost_name ≡ a.waits.ghost_name)
+    × (b.waiters.ghost_name ≡ a.waiters.ghost_name) × (b.places.ghost_name ≡ a.places.ghost_name)
+
 -- the single numbers: at another place; with other marks there; with so much left of the budget
 abbrev pub goes_to : Control → Now → Now
-goes_to c n = record { control = c; time = n.time; limit = n.limit; stage = n.stage; left = n.left; chosen = n.chosen; taken = n.taken; marks = n.marks }
+goes_to c n = record n { control = c }
 
 abbrev pub marks_to : Control → Marks → Now → Now
-marks_to c m n = record { control = c; time = n.time; limit = n.limit; stage = n.stage; left = n.left; chosen = n.chosen; taken = n.taken; marks = m }
+marks_to c m n = record n { control = c; marks = m }
 
 abbrev pub with_left : ℕ → Now → Now
-with_left x n = record { control = n.control; time = n.time; limit = n.limit; stage = n.stage; left = x; chosen = n.chosen; taken = n.taken; marks = n.marks }
+with_left x n = record n { left = x }
 
 -- Evaluation --------------------------------------------------------------------------------------------------
 
 abbrev pub dispatch : ℕ → Now → Now
-dispatch c n = record { control = Runs (c + 1); time = n.time; limit = n.limit; stage = n.stage; left = n.left; chosen = n.chosen + 1; taken = n.taken; marks = n.marks }
+dispatch c n = record n { control = Runs (c + 1); chosen = n.chosen + 1 }
 
 abbrev pub chosen_by : Found → Now → Now
-chosen_by none n = goes_to (Over 20 0xff 0) n
-chosen_by (found c) n = if may_run n.marks c then dispatch c n else goes_to (Over 21 0xff 0) n
+chosen_by none n = goes_to (Over NoChoiceLeft 0xff 0) n
+chosen_by (found c) n = if may_run n.marks c then dispatch c n else goes_to (Over NotRunnable 0xff 0) n
 
 -- and where no thread is runnable the machine goes to `idle`
 unfoldable pub evaluated : (choices : List ℕ) → (idle : Control) → Now → Now
 evaluated choices idle n = if any_runs n.marks then chosen_by (nth choices n.chosen) n else goes_to idle n
 
--- what the next choice comes to while a thread is runnable; and what follows where it stops the run with k
-abbrev pub choice_by : Found → Marks → Choice
-choice_by none m = Refused 20
-choice_by (found c) m = if may_run m c then Thread c else Refused 21
+-- what the next choice comes to while a thread is runnable: the thread that is dispatched, or why the run is over; and what follows
+-- where it is over for k
+abbrev pub choice_by : Found → Marks → Result ℕ Ending
+choice_by none m = Err NoChoiceLeft
+choice_by (found c) m = if may_run m c then Ok c else Err NotRunnable
 
-abbrev pub idle_or : (k : ℕ) → (idle : Control) → Now → Now
+abbrev pub idle_or : (k : Ending) → (idle : Control) → Now → Now
 idle_or k idle n = if any_runs n.marks then goes_to (Over k 0xff 0) n else goes_to idle n
 
 -- The update phase; t is the number of threads ----------------------------------------------------------------
@@ -94,32 +121,37 @@ delta_in n l = lists l.pends l.waits (cleared_by n.marks.pending l.waiters)
 abbrev pub least_of : Lists → Found
 least_of l = lesser (least (time_at l.pends) (length l.pends)) (least (time_at l.waits) (length l.waits))
 
--- the phase is over: its stage is 2 as quiet, 3 by its limit
-abbrev pub closed : ℕ → Now → Now
-closed s n = record { control = Runs 0; time = n.time; limit = n.limit; stage = s; left = n.left; chosen = n.chosen; taken = n.taken; marks = n.marks }
+-- the phase is over, and main goes on
+abbrev pub closed : Stage → Now → Now
+closed s n = record n { control = Runs 0; stage = s }
 
 abbrev pub moved_to : ℕ → Marks → Now → Now
-moved_to t m n = record { control = Turn; time = t; limit = n.limit; stage = n.stage; left = n.left; chosen = n.chosen; taken = n.taken; marks = m }
+moved_to t m n = record n { control = Turn; time = t; marks = m }
+
+-- the limit, where there is one, is below the time t
+abbrev pub is_beyond : Option ℕ → (t : ℕ) → Bool
+is_beyond None t = false
+is_beyond (Some limit) t = ltb limit t
 
 -- all that is due at the time t
 abbrev pub served_at : (t : ℕ) → Lists → Lists
 served_at t l = lists (map (over_code (t + 1)) l.pends) (map (over_code (t + 1)) l.waits) (cleared_by (due_in (t + 1) l.pends) l.waiters)
 
 abbrev pub timed_by : Found → Now → Lists → Now
-timed_by none n l = closed 2 n
-timed_by (found t) n l = if ltb n.limit t then closed 3 n else moved_to t (served_time (t + 1) l.pends l.waits l.waiters n.marks) n
+timed_by none n l = closed Quiet n
+timed_by (found t) n l = if is_beyond n.limit t then closed Limited n else moved_to t (served_time (t + 1) l.pends l.waits l.waiters n.marks) n
 
 abbrev pub served_by : Found → Now → Lists → Lists
 served_by none n l = l
-served_by (found t) n l = if ltb n.limit t then l else served_at t l
+served_by (found t) n l = if is_beyond n.limit t then l else served_at t l
 
 -- A body's end ------------------------------------------------------------------------------------------------
 
-abbrev pub phase_number : ℕ → ℕ
-phase_number zero = 11
-phase_number (suc zero) = 11
-phase_number (suc (suc zero)) = 0
-phase_number (suc (suc (suc n))) = 10
+abbrev pub phase_ending : Stage → Ending
+phase_ending Before = NoStart
+phase_ending During = NoStart
+phase_ending Quiet = QuietEnding
+phase_ending Limited = Limit
 
 -- body b is thread b - 1 of t threads
 abbrev pub is_thread : (t b : ℕ) → Bool
@@ -127,22 +159,41 @@ is_thread t b = between 1 b t
 
 unfoldable pub ends_to : (t b : ℕ) → Now → Now
 ends_to t b n =
-    if eqb b 0 then goes_to (Over (phase_number n.stage) 0xff 0) n
+    if eqb b 0 then goes_to (Over (phase_ending n.stage) 0xff 0) n
     else (if leb b t then marks_to Evaluation (ended_by (b - 1) n.marks) n else marks_to UpdatePhase (finished_by (b - 1 - t) n.marks) n)
 
 -- An instruction that is not plain ------------------------------------------------------------------------------
 
+-- what it came to, or why the run is over
 pub record Did : Type 0 where
-  pub came : Obeyed
+  pub came : Result Obeyed Ending
   pub kept : Kept
   pub cells : List ℕ
 
 abbrev pub did : Obeyed → Kept → List ℕ → Did
-did o x cs = record { came = o; kept = x; cells = cs }
+did o x cs = record { came = Ok o; kept = x; cells = cs }
+
+abbrev pub stopped : Ending → Kept → List ℕ → Did
+stopped k x cs = record { came = Err k; kept = x; cells = cs }
+
+-- as the code has it: where the run stops, the marks m stay as they were
+abbrev pub did_by : Result Done Ending → (m : Marks) → Lists → List ℕ → Did
+did_by (Ok d) m l cs = did d.came (kept d.marks l) cs
+did_by (Err k) m l cs = stopped k (kept m l) cs
+
+abbrev pub did_of : Result Done Ending → Now → State → List ℕ → Did
+did_of r n s cs = did_by r n.marks (lists_of s) cs
+
+-- is the phase over
+abbrev pub is_closed : Stage → Bool
+is_closed Before = false
+is_closed During = false
+is_closed Quiet = true
+is_closed Limited = true
 
 -- main after the phase
-abbrev pub is_past : (b stage : ℕ) → Bool
-is_past b stage = eqb b 0 && leb 2 stage
+abbrev pub is_past : (b : ℕ) → Stage → Bool
+is_past b stage = eqb b 0 && is_closed stage
 
 -- only a thread waits: for event e, and for the moment q
 unfoldable pub waited_on : (t b e : ℕ) → Kept → Kept
@@ -179,18 +230,22 @@ full adds q l = not (eqb q 0) && (adds && leb 48 (times_in l))
 -- a due time q is asked for: 17, then 23, then what it does
 abbrev pub due_by : (adds : Bool) → (q : ℕ) → Kept → List ℕ → Did → Did
 due_by adds q x cs d =
-    if ltb last_time q then did (Stops 17) x cs else (if full adds q x.lists then did (Stops 23) x cs else d)
+    if ltb last_time q then stopped TooLate x cs else (if full adds q x.lists then stopped TooManyDueTimes x cs else d)
 
 abbrev pub took_by : Found → ℕ → Kept → List ℕ → Did
-took_by none d x cs = did (Stops 19) x cs
+took_by none d x cs = stopped NoInputLeft x cs
 took_by (found v) d x cs = did Took x (set cs d v)
 
 -- 18 comes before what the instruction itself answers
-abbrev pub in_time : (b stage : ℕ) → Kept → List ℕ → Did → Did
-in_time b stage x cs d = if is_past b stage then did (Stops 18) x cs else d
+abbrev pub in_time : (b : ℕ) → Stage → Kept → List ℕ → Did → Did
+in_time b stage x cs d = if is_past b stage then stopped OutOfPhase x cs else d
 
-abbrev pub starts_by : (stage limit : ℕ) → Kept → List ℕ → Did
-starts_by stage limit x cs = if eqb stage 0 then did (Begins limit) x cs else did (Stops 18) x cs
+-- the phase begins once
+abbrev pub starts_by : Stage → (limit : Option ℕ) → Kept → List ℕ → Did
+starts_by Before limit x cs = did (Begins limit) x cs
+starts_by During limit x cs = stopped OutOfPhase x cs
+starts_by Quiet limit x cs = stopped OutOfPhase x cs
+starts_by Limited limit x cs = stopped OutOfPhase x cs
 
 -- the marks alone changed
 abbrev pub marked : (Marks → Marks) → Kept → Kept
@@ -210,18 +265,18 @@ module _ (t b : ℕ) (i : Frame) (n : Now) (inputs : List ℕ) (x : Kept) (cs : 
   obeyed request = in_time b n.stage x cs (did Goes (marked (requested_by i.d) x) cs)
   obeyed suspend = in_time b n.stage x cs (did Goes (marked (suspended i.d) x) cs)
   obeyed resume = in_time b n.stage x cs (did Goes (marked (resumed i.d) x) cs)
-  obeyed start_limit = starts_by n.stage i.imm x cs
-  obeyed start = starts_by n.stage 4294967296 x cs
-  obeyed takes_imm = did (Stops 4) x cs
-  obeyed (one f) = did (Stops 4) x cs
-  obeyed (two f) = did (Stops 4) x cs
-  obeyed (may f) = did (Stops 4) x cs
-  obeyed load = did (Stops 4) x cs
-  obeyed store = did (Stops 4) x cs
-  obeyed goto = did (Stops 4) x cs
-  obeyed goto_if = did (Stops 4) x cs
-  obeyed (holds k) = did (Stops 4) x cs
-  obeyed unknown = did (Stops 4) x cs
+  obeyed start_limit = starts_by n.stage (Some i.imm) x cs
+  obeyed start = starts_by n.stage None x cs
+  obeyed takes_imm = stopped UnknownOp x cs
+  obeyed (one f) = stopped UnknownOp x cs
+  obeyed (two f) = stopped UnknownOp x cs
+  obeyed (may f) = stopped UnknownOp x cs
+  obeyed load = stopped UnknownOp x cs
+  obeyed store = stopped UnknownOp x cs
+  obeyed goto = stopped UnknownOp x cs
+  obeyed goto_if = stopped UnknownOp x cs
+  obeyed (holds k) = stopped UnknownOp x cs
+  obeyed unknown = stopped UnknownOp x cs
 
 -- does the body that ran go on where it does not wait: a thread that has suspended itself does not
 unfoldable pub stays_at : (t b : ℕ) → Marks → Control
@@ -232,19 +287,16 @@ unfoldable pub next_input : (c taken : ℕ) → ℕ
 next_input c taken = if ltb taken c then taken + 1 else taken
 
 -- an instruction of body b at place p is completed, or stops the run
-abbrev pub completed_to : (t c b p : ℕ) → Obeyed → Marks → Now → Now
-completed_to t c b p (Stops k) m n = goes_to (Over k b p) n
-completed_to t c b p Goes m n = with_left (n.left - 1) (marks_to (stays_at t b m) m n)
-completed_to t c b p Waits m n = with_left (n.left - 1) (marks_to Evaluation m n)
-completed_to t c b p Took m n = record { control = Runs b; time = n.time; limit = n.limit; stage = n.stage; left = n.left - 1; chosen = n.chosen; taken = next_input c n.taken; marks = n.marks }
-completed_to t c b p (Begins x) m n = record { control = UpdatePhase; time = n.time; limit = x; stage = 1; left = n.left - 1; chosen = n.chosen; taken = n.taken; marks = n.marks }
+abbrev pub completed_to : (t c b p : ℕ) → Result Obeyed Ending → Marks → Now → Now
+completed_to t c b p (Err k) m n = goes_to (Over k b p) n
+completed_to t c b p (Ok Goes) m n = with_left (n.left - 1) (marks_to (stays_at t b m) m n)
+completed_to t c b p (Ok Waits) m n = with_left (n.left - 1) (marks_to Evaluation m n)
+completed_to t c b p (Ok Took) m n = record n { control = Runs b; left = n.left - 1; taken = next_input c n.taken }
+completed_to t c b p (Ok (Begins x)) m n = record n { control = UpdatePhase; limit = x; stage = During; left = n.left - 1 }
 
-abbrev pub completed_at : (b p : ℕ) → Obeyed → List ℕ → List ℕ
-completed_at b p (Stops k) ps = ps
-completed_at b p Goes ps = set ps b (p + 1)
-completed_at b p Waits ps = set ps b (p + 1)
-completed_at b p Took ps = set ps b (p + 1)
-completed_at b p (Begins x) ps = set ps b (p + 1)
+abbrev pub completed_at : (b p : ℕ) → Result Obeyed Ending → List ℕ → List ℕ
+completed_at b p (Err k) ps = ps
+completed_at b p (Ok o) ps = set ps b (p + 1)
 
 abbrev pub completed : (t c b p : ℕ) → Did → Now → List ℕ → Code
 completed t c b p d n ps =
@@ -327,11 +379,21 @@ unfoldable pub turns : (table choices inputs firsts : List ℕ) → (t : ℕ) �
 turns table choices inputs firsts t zero c = c
 turns table choices inputs firsts t (suc k) c = turns table choices inputs firsts t k (turn table choices inputs firsts t c)
 
+-- as the code is given them
+abbrev pub body_run_of : Job → (t b : ℕ) → Code → Code
+body_run_of j = body_run j.table.now j.inputs.now j.firsts.now
+
+abbrev pub turn_of : Job → (t : ℕ) → Code → Code
+turn_of j = turn j.table.now j.choices.now j.inputs.now j.firsts.now
+
+abbrev pub turns_of : Job → (t : ℕ) → ℕ → Code → Code
+turns_of j = turns j.table.now j.choices.now j.inputs.now j.firsts.now
+
 -- The first state ------------------------------------------------------------------------------------------------
 
 -- no event pends, no thread waits or is suspended, no update is requested
 abbrev pub first_now : (threads budget : ℕ) → Now
-first_now t budget = record { control = Runs 0; time = 0; limit = 4294967296; stage = 0; left = budget; chosen = 0; taken = 0; marks = first_marks t }
+first_now t budget = record { control = Runs 0; time = 0; limit = None; stage = Before; left = budget; chosen = 0; taken = 0; marks = first_marks t }
 
 abbrev pub first_lists : (threads events : ℕ) → Lists
 first_lists t e = lists (replicate e for_nothing) (replicate t for_nothing) (replicate e 0)
@@ -354,10 +416,10 @@ zeroed (suc n) (x ∷ cs) = 0 ∷ zeroed n cs
 
 -- What is told at the end ---------------------------------------------------------------------------------------
 
--- the answer of a run that is over with number k, body b and place p, had it this budget; its fields have 32 bits
-abbrev pub answer_as : (budget : ℕ) → Now → (k b p : ℕ) → Told
+-- the answer of a run that is over for k, in body b at place p, had it this budget; its fields have 32 bits
+abbrev pub answer_as : (budget : ℕ) → Now → (k : Ending) → (b p : ℕ) → Told
 answer_as budget n k b p = record {
-  number = k;
+  number = number_of k;
   body = b % 4294967296;
   place = p % 4294967296;
   time = n.time;
@@ -373,12 +435,12 @@ refused_at n i = record { number = n; body = 0xff; place = i % 4294967296; time 
 -- (a run is over when it is told, so the other cases never arise)
 abbrev pub answer_from : (budget : ℕ) → Now → Control → Told
 answer_from budget n (Over k b p) = answer_as budget n k b p
-answer_from budget n (Runs b) = answer_as budget n 0 0 0
-answer_from budget n UpdatePhase = answer_as budget n 0 0 0
-answer_from budget n DeltaPhase = answer_as budget n 0 0 0
-answer_from budget n Turn = answer_as budget n 0 0 0
-answer_from budget n Evaluation = answer_as budget n 0 0 0
-answer_from budget n TimePhase = answer_as budget n 0 0 0
+answer_from budget n (Runs b) = answer_as budget n QuietEnding 0 0
+answer_from budget n UpdatePhase = answer_as budget n QuietEnding 0 0
+answer_from budget n DeltaPhase = answer_as budget n QuietEnding 0 0
+answer_from budget n Turn = answer_as budget n QuietEnding 0 0
+answer_from budget n Evaluation = answer_as budget n QuietEnding 0 0
+answer_from budget n TimePhase = answer_as budget n QuietEnding 0 0
 
 unfoldable pub answered : (budget : ℕ) → Now → Told
 answered budget n = answer_from budget n n.control

@@ -1,14 +1,17 @@
 -- When the code's numbers stand for a state of the machine. Nothing public speaks of it.
-use Rattle.std.specs.Prelude.{ℕ, zero, suc, ◌+◌, ◌-◌, ◌<◌, ◌≡◌, List, ◌++◌, ltb, length, get_or, if◌then◌else◌}
+use Rattle.std.specs.Prelude.{ℕ, zero, suc, ◌+◌, ◌-◌, ◌<◌, ◌≡◌, List, ◌++◌, ltb, length, get_or, if◌then◌else◌, Option, Some, None}
 use Rattle.image.specs.Layout.{bodies, first}
 use Rattle.kernel.specs.Search.{Found, none, found}
 use Rattle.kernel.specs.Design.{Table, Body, main, thread, update, threads as threads_of, cells as cells_of}
-use Rattle.kernel.specs.Kernel.{Kernel, kernel, Stage, before, during, past}
+use Rattle.kernel.specs.Kernel.{Kernel, kernel, Stage as KernelStage, before, during, past}
 use Rattle.kernel.specs.Machine.{Job, Control as Place, running, update_phase, delta_phase, turn, evaluation, time_phase, over, Machine, State}
 use Rattle.kernel.proofs.Fits.{Fits}
 use Rattle.shows.specs.Shows.{Lists, kept, Shows}
+use Rattle.ending.specs.Ending.{number_of}
 use Rattle.turns.specs.declared.Control.{Control}
 use Rattle.turns.specs.declared.Control.TheVariants.{Runs, UpdatePhase, DeltaPhase, Turn, Evaluation, TimePhase, Over}
+use Rattle.turns.specs.declared.Stage.{Stage}
+use Rattle.turns.specs.declared.Stage.TheVariants.{Before, During, Quiet, Limited}
 use Rattle.turns.specs.declared.Now.{Now}
 
 -- "Bodies are numbered main 0, then threads, then updates": the body of number b, of a design of t threads
@@ -24,18 +27,19 @@ place_of t DeltaPhase = delta_phase
 place_of t Turn = turn
 place_of t Evaluation = evaluation
 place_of t TimePhase = time_phase
-place_of t (Over n b p) = over n b p
+place_of t (Over k b p) = over (number_of k) b p
 
--- a number below 2^32 is a limit, any other none
-unfoldable pub limit_of : ℕ → Found
-limit_of l = if ltb l 4294967296 then found l else none
+-- the limit
+abbrev pub limit_of : Option ℕ → Found
+limit_of None = none
+limit_of (Some limit) = found limit
 
--- 0 before the phase, 1 in it, 2 after it as quiet, any other after it by its limit
-unfoldable pub stage_of : ℕ → Stage
-stage_of zero = before
-stage_of (suc zero) = during
-stage_of (suc (suc zero)) = past 0
-stage_of (suc (suc (suc n))) = past 10
+-- the stage; after the phase the kernel's names the number that a quiet run ends with, or one that its limit ends
+abbrev pub stage_of : Stage → KernelStage
+stage_of Before = before
+stage_of During = during
+stage_of Quiet = past 0
+stage_of Limited = past 10
 
 -- the kernel's single numbers, and the machine's; the lent cells are the design's, and the rest
 pub record Counts (j : Job) (rest : List ℕ) (k : Kernel) (m : Machine) (n : Now) (ps cs : List ℕ) : Type 0 where

@@ -3,11 +3,12 @@
 #![tactic(auto)]
 
 ghost use Rattle.std.specs.Prelude.{◌≡◌};
-ghost use Rattle.turns.specs.Code.{goes_to, marks_to};
+ghost use Rattle.turns.specs.Code.{threads_of, goes_to, marks_to};
 
+use ending::Ending;
 use marks::Marks;
 
-// Where the machine stands: body b runs, a phase, the turn to evaluation or time, or the run is over with number, body and place.
+// Where the machine stands: body b runs, a phase, the turn to evaluation or time, or the run is over: why, in which body and at which place.
 #[derive(Clone, Copy)]
 pub enum Control {
     Runs(usize),
@@ -16,39 +17,58 @@ pub enum Control {
     Turn,
     Evaluation,
     TimePhase,
-    Over(u8, usize, usize),
+    Over(Ending, usize, usize),
 }
 
-// All of the machine and the kernel that is a single number. The limit is 2^32 where there is none; the stage is 0 before the
-// phase, 1 in it, 2 after it as quiet, 3 by its limit; left is what is left of the budget.
+// How far the phase is: main has not begun it, it runs, or it is over, as quiet or by its limit.
+#[derive(Clone, Copy)]
+pub enum Stage {
+    Before,
+    During,
+    Quiet,
+    Limited,
+}
+
+// All of the machine and the kernel that is a single number; left is what is left of the budget.
 #[derive(Clone, Copy)]
 pub struct Now {
     pub control: Control,
     pub time: u32,
-    pub limit: u64,
-    pub stage: u8,
+    pub limit: Option<u32>,
+    pub stage: Stage,
     pub left: u32,
     pub chosen: usize,
     pub taken: usize,
     pub marks: Marks,
 }
 
-// What the next choice comes to while a thread is runnable: the thread that is dispatched, or the number that the run stops with.
+// What a run is given: the table, the order of threads and the inputs; and the lines of the bodies' first instructions.
 #[derive(Clone, Copy)]
-pub enum Choice {
-    Thread(u8),
-    Refused(u8),
+pub struct Job<'a> {
+    pub table: &'a [u64],
+    pub choices: &'a [u8],
+    pub inputs: &'a [u32],
+    pub firsts: &'a [usize],
 }
 
-// What an instruction that is not plain came to: it stops the run, goes on, makes its thread wait, took an input, or begins the phase with
-// a limit.
+// The rest of the state: what each event pends for and each thread waits for, where it is a time, the threads that wait for each
+// event, and each body's place. Two lists by event and no list of pairs, so that `dues::take_due` serves events and threads alike.
+#[derive(Drop)]
+pub struct State<'a> {
+    pub pends: &'a mut [u64],
+    pub waits: &'a mut [u64],
+    pub waiters: &'a mut [u32],
+    pub places: &'a mut [usize],
+}
+
+// What an instruction that is not plain came to, where it does not stop the run: it goes on, makes its thread wait, took an input, or
+// begins the phase with a limit.
 #[derive(Clone, Copy)]
 pub enum Obeyed {
-    Stops(u8),
     Goes,
     Waits,
     Took,
-    Begins(u64),
+    Begins(Option<u32>),
 }
 
 // And the marks after it.
@@ -58,26 +78,31 @@ pub struct Done {
     pub marks: Marks,
 }
 
-// The machine at another place.
-pub fn to(n: Now, c: Control) -> Now
-    ensures { result ≡ goes_to c n }
-{
-    let marks = n.marks;
-    to_marks(n, c, marks)
+impl Now {
+    // The machine at another place.
+    pub fn to(self, c: Control) -> Now
+        ensures { result ≡ goes_to c self }
+    {
+        Now { control: c, ..self }
+    }
+
+    // And with other marks.
+    pub fn to_marks(self, c: Control, marks: Marks) -> Now
+        ensures { result ≡ marks_to c marks self }
+    {
+        Now {
+            control: c,
+            marks: marks,
+            ..self
+        }
+    }
 }
 
-// And with other marks.
-pub fn to_marks(n: Now, c: Control, marks: Marks) -> Now
-    ensures { result ≡ marks_to c marks n }
-{
-    Now {
-        control: c,
-        time: n.time,
-        limit: n.limit,
-        stage: n.stage,
-        left: n.left,
-        chosen: n.chosen,
-        taken: n.taken,
-        marks: marks,
+impl State<'_> {
+    // The threads.
+    pub fn threads(&self) -> usize
+        ensures { result ≡ threads_of self.now }
+    {
+        self.waits.len()
     }
 }

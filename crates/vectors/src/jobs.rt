@@ -14,14 +14,10 @@ fn past_line(text: &[u8], at: usize) -> usize
     ensures lower_bound { at < result }
     ensures upper_bound { result ≤ length text.now }
 {
-    let mut i = at;
-    while i < text.len() {
-        if text[i] == 0x0a {
-            return i + 1;
-        }
-        i += 1;
+    match text[at..].iter().position(|&b| b == b'\n') {
+        Some(i) => at + i + 1,
+        None => text.len(),
     }
-    i
 }
 
 fn is_mark(byte: u8) -> bool {
@@ -35,6 +31,7 @@ fn past_lines(text: &[u8], at: usize) -> usize
     ensures upper_bound { result ≤ length text.now }
 {
     let mut line = at;
+    // By whole lines, which no iterator of the library goes by.
     while line < text.len() {
         if is_mark(text[line]) {
             return line;
@@ -44,19 +41,12 @@ fn past_lines(text: &[u8], at: usize) -> usize
     line
 }
 
-fn print_first(rt: &impl Print, out: &[u8], bytes: usize) -> io::Result<()> {
-    if out.len() < bytes {
-        return Ok(());
-    }
-    rt.write_all(&out[0..bytes])
-}
-
 // The title is printed as it stands, and after it the whole answer of the program.
 fn answered(rt: &impl Print, title: &[u8], job: &[u8]) -> io::Result<()> {
     let mut out = [0u8; job::LONGEST_ANSWER];
-    let bytes = job::answer(job, &mut out);
+    let bytes = job::answer(job, &mut out).unwrap_or(0);
     rt.write_all(title)?;
-    print_first(rt, &out, bytes)
+    rt.write_all(&out[..bytes])
 }
 
 // One case. Its answer is where the next begins.
@@ -77,6 +67,7 @@ fn one_case(rt: &impl Print, text: &[u8], at: usize) -> io::Result<usize>
 
 fn each_case(rt: &impl Print, text: &[u8]) -> io::Result<()> {
     let mut at = 0;
+    // Each case says where the next begins.
     while at < text.len() {
         at = one_case(rt, text, at)?;
     }

@@ -10,57 +10,39 @@ ghost use Rattle.waits.specs.Waits.{triggered};
 
 use marks::Marks;
 
-// The threads that wait for event e.
-fn waiters_of(waiters: &[u32], e: usize) -> u32
-    ensures { result ≡ get_or waiters.now e 0 }
-{
-    if e < waiters.len() {
-        return waiters[e];
-    }
-    0
-}
-
-fn put_waiters(waiters: &mut [u32], e: usize, w: u32)
-    ensures { waiters.new ≡ set waiters.old e w }
-{
-    if e < waiters.len() {
-        waiters[e] = w;
-    }
-}
-
 // Thread i waits for event e.
 pub fn wait_event(m: Marks, waiters: &mut [u32], i: usize, e: usize) -> Marks
     ensures value { result ≡ waits_on i m }
     ensures waiters_after { waiters.new ≡ set waiters.old e (with (get_or waiters.old e 0) i) }
 {
-    let w = waiters_of(waiters, e);
-    put_waiters(waiters, e, sets::with(w, i));
-    marking::with_waiting(m, sets::with(m.waiting, i))
+    let w = slots::get_or(waiters, e, 0);
+    slots::put(waiters, e, sets::with(w, i));
+    m.wait(i)
 }
 
 // Thread i waits for the moment q.
+#[tactic(auto, unfolding(marks::specs::Marks::waits_till, dues::specs::Dues::waits_at))]
 pub fn wait_time(m: Marks, waits: &mut [u64], i: usize, q: u64) -> Marks
     ensures value { result ≡ waits_till q i m }
     ensures waits_after { waits.new ≡ waits_at q i waits.old }
 {
     if q == 0 {
-        return marking::wait_delta(m, i);
+        return m.wait_delta(i);
     }
-    dues::put(waits, i, q);
-    marking::with_waiting(m, sets::with(m.waiting, i))
+    slots::put(waits, i, q);
+    m.wait(i)
 }
 
 // Event e pends for the earlier of what it pends for and the moment q.
+#[tactic(auto, unfolding(marks::specs::Marks::asked_for))]
 pub fn notify_after(m: Marks, pends: &mut [u64], e: usize, q: u64) -> Marks
     ensures value { result ≡ asked_for q e m }
     ensures pends_after { pends.new ≡ changed (asked_code (has m.pending e) q) e pends.old }
 {
-    if e < pends.len() {
-        let c = dues::asked_of(sets::has(m.pending, e), q, pends[e]);
-        pends[e] = c;
-    }
+    let c = slots::get_or(pends, e, 0);
+    slots::put(pends, e, dues::asked_of(sets::has(m.pending, e), q, c));
     if q == 0 {
-        return marking::with_pending(m, sets::with(m.pending, e));
+        return m.pend(e);
     }
     m
 }
@@ -70,26 +52,22 @@ pub fn free_on(waiting: u32, waiters: &mut [u32], e: usize) -> u32
     ensures value { result ≡ minus waiting (get_or waiters.old e 0) }
     ensures waiters_after { waiters.new ≡ set waiters.old e 0 }
 {
-    let w = waiters_of(waiters, e);
-    put_waiters(waiters, e, 0);
+    let w = slots::get_or(waiters, e, 0);
+    slots::put(waiters, e, 0);
     sets::minus(waiting, w)
 }
 
 // Drops what pends for event e, and frees the threads that wait for it.
+#[tactic(auto, unfolding(crate::specs::Waits::triggered))]
 pub fn trigger(m: Marks, pends: &mut [u64], waiters: &mut [u32], e: usize) -> Marks
     ensures value { result ≡ triggered waiters.old e m }
     ensures pends_after { pends.new ≡ set pends.old e for_nothing }
     ensures waiters_after { waiters.new ≡ set waiters.old e 0 }
 {
-    dues::put(pends, e, dues::NOTHING);
-    let waiting = free_on(m.waiting, waiters, e);
+    slots::put(pends, e, dues::NOTHING);
     Marks {
-        waiting: waiting,
-        delta: m.delta,
-        suspended: m.suspended,
-        resuming: m.resuming,
-        ended: m.ended,
-        requested: m.requested,
+        waiting: free_on(m.waiting, waiters, e),
         pending: sets::without(m.pending, e),
+        ..m
     }
 }

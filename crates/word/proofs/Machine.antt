@@ -1,17 +1,16 @@
 -- What the machine's numbers are in the words of the definitions. The machine keeps a signed number z of the width v as bits, of_z v z, and
 -- reads them by to_z v. Assumes nothing.
-use mathlib.Core.Path.{◌≡◌, refl, sym, ap, ◌∙◌}
-use Prim.Native.Nat.{ℕ, zero, suc, ◌+◌, ◌-◌, ◌%◌, ◌^◌, ◌≤◌, ◌<◌}
-use native.Mathlib.Nat.{zero-add, add-mod-mod, add-mod_right, mod-eq_of_lt}
+use mathlib.Core.Path.{◌≡◌, refl, ◌∙◌}
+use Prim.Native.Nat.{ℕ, ◌^◌, ◌<◌}
 use native.Mathlib.Omega.{arith}
 use borrow.Author.Tests.{le-ltb}
-use lib.IntN.{ℤ, pos, negsuc, ◌-ℤ◌}
+use lib.IntN.{ℤ, pos, negsuc}
 use lib.Signed.{mag}
 use mir.Syntax.{w32}
 use mir.Val.{to_z, of_z, Fits}
 use mir.ValLaws.{to_z_pos}
-use Rattle.word.specs.Word.{sub_u, signed, bits_of}
-use Rattle.word.specs.TwosComplement.{by_half, signed_high, mag_signed, read_written}
+use Rattle.word.specs.Word.{signed, bits_of}
+use Rattle.word.specs.TwosComplement.{by_half, mag_signed, read_written}
 
 -- at 32 bits the machine reads and writes as the definitions do
 pub read_is : (x : ℕ) → x < 2 ^ 32 → to_z w32 x ≡ signed 32 x
@@ -29,21 +28,3 @@ magnitude x f = mag_signed 32 (omega arith) x f.fits
 
 pub written : (x : ℕ) → Fits w32 x → of_z w32 (signed 32 x) ≡ x
 written x f = bits_are (signed 32 x) ∙ read_written 32 (omega arith) x f.fits
-
--- the upper half counts down from -1
-minus_one : (n : ℕ) → negsuc 0 -ℤ pos n ≡ negsuc n
-minus_one zero = refl
-minus_one (suc n) = rw (zero-add n)
-
-pub counted_down : (x : ℕ) → 2 ^ 31 ≤ x → x < 2 ^ 32 → negsuc 0 -ℤ to_z w32 (0xffffffff - x) ≡ signed 32 x
-counted_down x h l =
-    let e : 0xffffffff - x ≡ 2 ^ 32 - suc x = omega arith in
-    rw (to_z_pos w32 (0xffffffff - x) (omega arith)) (minus_one (0xffffffff - x) ∙ ap negsuc e ∙ sym (signed_high 32 x h l))
-
--- the wrapping difference is told by the sum that gives it back
-pub difference_is : (w r x y : ℕ) → r < 2 ^ w → y < 2 ^ w → (r + y) % 2 ^ w ≡ x → r ≡ sub_u w x y
-unfolding sub_u
-difference_is w r x y hr hy e =
-    let p : (x + 2 ^ w) - y ≡ (2 ^ w - y) + x = omega arith in
-    let s : (2 ^ w - y) + (r + y) ≡ r + 2 ^ w = omega arith in
-    sym (rw (p, ← e) (add-mod-mod (2 ^ w - y) (r + y) (2 ^ w) ∙ rw s (add-mod_right r (2 ^ w) ∙ mod-eq_of_lt hr)))

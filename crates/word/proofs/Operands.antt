@@ -25,7 +25,7 @@ module _ (v : Width) (room : 2 ^ 31 ≤ 2 ^ hbits v) {x y : ℕ} (fx : Fits w32 
 
   -- an operation whose result the width holds
   module _ (f : ℤ → ℤ → ℤ) (fits : SFits v (f (signed 32 x) (signed 32 y))) where
-    asks : SFits v (f (to_z v (of_z v a)) (to_z v (of_z v b)))
+    pub asks : SFits v (f (to_z v (of_z v a)) (to_z v (of_z v b)))
     asks = subst (SFits v) (sym (read_both f)) fits
 
     pub gives : to_z v (of_z v (f (to_z v (of_z v a)) (to_z v (of_z v b)))) ≡ f (signed 32 x) (signed 32 y)

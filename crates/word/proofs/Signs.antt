@@ -1,47 +1,18 @@
--- What the tests of a signed local tell of its number. Assumes nothing.
+-- What the test of two signed operands tells of their quotient. Assumes nothing.
 use mathlib.Core.Path.{◌≡◌, refl, sym, ap, ◌∙◌}
 use mathlib.Core.Bool.{Bool, true, false, not}
-use mathlib.Core.Logic.{◌⊎◌, inl, inr, ⊎_elim}
-use Prim.Native.Nat.{ℕ, suc, ◌-◌, ◌^◌, ◌≤◌, ◌<◌}
-use native.Mathlib.Omega.{arith}
-use borrow.Author.Tests.{le-ltb, ltb-true, ltb-false, eqb-true, eqb-false}
+use mathlib.Core.Logic.{◌⊎◌, ⊎_elim}
+use Prim.Native.Nat.{ℕ, ◌^◌, ◌<◌}
+use borrow.Author.Tests.{eqb-true, eqb-false}
 use lib.Dec.{eqb}
-use lib.IntN.{ℤ, pos, negsuc, ◌-ℤ◌}
-use lib.Signed.{mag, lt_z, quot_z}
+use lib.IntN.{ℤ, negsuc}
+use lib.Signed.{mag, quot_z}
 use mir.Syntax.{w32}
 use mir.Val.{to_z, of_z, SFits}
 use mir.ValLaws.{to_z-of_z}
-use Rattle.word.specs.Word.{bits_of, in_range}
+use Rattle.word.specs.Word.{in_range}
 use Rattle.word.specs.TwosComplement.{in_range_lem, out_of_range}
 use Rattle.word.specs.Division.{quotient_in, quotient_out}
-
--- below 0 and not: how its cell is made
-pub turned : (z : ℤ) → lt_z z (pos 0) ≡ true → negsuc 0 -ℤ z ≡ pos (mag z)
-turned (pos n) e = absurd (omega (arith, ltb-true n 0 e))
-turned (negsuc n) e = rw (le-ltb (suc n) 1 (omega arith)) (ap pos (omega arith))
-
-pub down : (z : ℤ) → lt_z z (pos 0) ≡ true → 0xffffffff - mag z ≡ bits_of 32 z
-unfolding bits_of
-down (pos n) e = absurd (omega (arith, ltb-true n 0 e))
-down (negsuc n) e = omega arith
-
-pub plain : (z : ℤ) → lt_z z (pos 0) ≡ false → z ≡ pos (bits_of 32 z)
-unfolding bits_of
-plain (pos n) e = refl
-plain (negsuc n) e = cc
-
--- past one end, past the other, and between the two
-pub under : {l : ℕ} (z : ℤ) → lt_z z (negsuc l) ≡ true → suc l ≤ mag z
-under (pos n) e = let t : ◌≡◌ {A = ℕ} 0 1 = cc in absurd (omega arith)
-under {l} (negsuc n) e = ltb-true l n e
-
-pub over : {u : ℕ} (z : ℤ) → lt_z (pos u) z ≡ true → suc u ≤ mag z
-over {u} (pos n) e = ltb-true u n e
-over (negsuc n) e = let t : ◌≡◌ {A = ℕ} 0 1 = cc in absurd (omega arith)
-
-pub within : {l u : ℕ} (z : ℤ) → lt_z z (negsuc l) ≡ false → lt_z (pos u) z ≡ false → (mag z ≤ l) ⊎ (mag z ≤ u)
-within {u} (pos n) e f = inr (ltb-false u n f)
-within {l} (negsuc n) e f = inl (ltb-false l n e)
 
 -- an i32 is told by its bits
 pub told : (z : ℤ) → SFits w32 z → (n : ℕ) → of_z w32 z ≡ n → z ≡ to_z w32 n

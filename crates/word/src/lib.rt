@@ -2,10 +2,9 @@
 // operations on 32-bit cells.
 #![tactic(auto)]
 
-// What an operation that can stop the run answers: a value for the cell, or which of the two stops.
-#[derive(Clone, Copy)]
-pub enum Outcome {
-    Value(u32),
+// Why an operation has no value for the cell and stops the run.
+#[derive(Clone, Copy, Debug, PartialEq, Eq)]
+pub enum ArithmeticError {
     ZeroDivisor,
     OutOfRange,
 }

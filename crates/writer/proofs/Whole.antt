@@ -4,7 +4,7 @@ use mathlib.Core.Path.{◌≡◌, sym, ap, ◌∙◌}
 use mathlib.Core.List.{List, [], ◌∷◌, ◌++◌}
 use native.Mathlib.Omega.{arith}
 use native.Mathlib.Numerals.{add-one}
-use borrow.Author.Tests.{lt-ltb, le-ltb, le-leb, eq-eqb, ne_eqb}
+use borrow.Author.Tests.{lt-ltb, le-ltb, le-leb, ne_eqb}
 use lib.ListN.{length, get_or, set, drop}
 use lib.Seq.{sets, drop-cons}
 use Rattle.laws.specs.Lists.{drop_all, stored, sets_append}
@@ -33,20 +33,18 @@ unfolding text
 text_end l ys fs i h e = rw (drop_all fs i h) at e
 
 -- writing as a whole
-module _ (table bytes : List ℕ) (s : Said) (k : ℕ) (p : s ≡ judged table) (e : k ≡ s.number) where
-  pub write_refused : (k ≡ 0 → ⊥) → outcome s bytes ≡ writing table bytes
-  unfolding writing
-  write_refused z = rw (← p, ne_eqb s.number 0 (λ y. z (e ∙ y)))
+pub write_refused : (table bytes : List ℕ) (s : Said) → s ≡ judged table → (s.number ≡ 0 → ⊥) → outcome s bytes ≡ writing table bytes
+unfolding writing
+write_refused table bytes s p z = rw (← p, ne_eqb s.number 0 z)
 
-  pub write_room : k ≡ 0 → length bytes / 17 < length table → outcome (say 8 0) bytes ≡ writing table bytes
+module _ (table bytes : List ℕ) (n : ℕ) (p : say 0 n ≡ judged table) where
+  pub write_room : length bytes / 17 < length table → outcome (say 8 0) bytes ≡ writing table bytes
   unfolding writing
-  write_room z h = rw (← p, eq-eqb s.number 0 (sym e ∙ z), lt-ltb (length bytes) (17 * length table) (omega arith))
+  write_room h = rw (← p, lt-ltb (length bytes) (17 * length table) (omega arith))
 
-  pub write_done : (t : List ℕ) → k ≡ 0 → length table ≤ length bytes / 17 → t ≡ sets bytes 0 (text table) → outcome (say 0 (17 * length table)) t ≡ writing table bytes
+  pub write_done : (t : List ℕ) → length table ≤ length bytes / 17 → t ≡ sets bytes 0 (text table) → outcome (say 0 (17 * length table)) t ≡ writing table bytes
   unfolding writing
-  write_done t z h g =
+  write_done t h g =
       let f : length (text table) ≤ length bytes = omega (arith, length_text table) in
-      rw (← p, eq-eqb s.number 0 (sym e ∙ z), le-ltb (length bytes) (17 * length table) (omega arith))
+      rw (← p, le-ltb (length bytes) (17 * length table) (omega arith))
       (ap (outcome (say 0 (17 * length table))) (g ∙ stored (text table) bytes f))
-
-pub ruleset write_laws = (write_refused, write_room, write_done)

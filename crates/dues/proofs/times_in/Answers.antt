@@ -1,16 +1,10 @@
-use native.Mathlib.Omega.{arith}
-use borrow.Author.Rules.{rules}
-use Rattle.dues.proofs.Loops.{times_laws, one_time}
+use Rattle.std.proofs.Common.{rules, tests}
+use Rattle.std.proofs.lemmas.Iterator.{YieldsList-from_slice}
+use Rattle.std.proofs.lemmas.Iterator.Consumers.{count_from_yields_List, YieldsList-from_filter}
+use Rattle.dues.proofs.Loops.{times_counted}
 use Rattle.dues.proofs.times_in.Goals as goal
 
-pub loop-i-init : goal.loop-i-init
-loop-i-init c = search (times_laws, rules)
-
-pub overflow_add-n : goal.overflow_add-n
-overflow_add-n c = omega (arith, one_time _ _ c.is_time-n.ensures)
-
-pub loop-i-preserved : goal.loop-i-preserved
-loop-i-preserved c = (search rules, search rules, omega (arith, one_time _ _ c.is_time-n.ensures), search times_laws)
-
 pub returns-clause-value : goal.returns-clause-value
-returns-clause-value c = search times_laws
+returns-clause-value c =
+    times_counted _ _
+    (count_from_yields_List c.filter.result _ c.count.ensures.ran (YieldsList-from_filter _ _ (YieldsList-from_slice c.args.codes.now cc) c.filter.ensures.closure (λ x r q k. search (rules, tests))))

@@ -1,12 +1,13 @@
-use Rattle.job.proofs.Stages.{room, room_cut, first_counted}
-use borrow.Author.Rules.{rules}
+use Rattle.std.proofs.Common.{[], arith, ap, ◌∙◌}
+use Rattle.std.proofs.Math.ListN.{length-take}
+use Rattle.program.specs.Printing.{shown}
+use Rattle.job.proofs.Stages.{room}
 use Rattle.job.proofs.answer.Goals as goal
 
-pub slice_bounds-print-end : goal.slice_bounds-print-end
-slice_bounds-print-end c = search (first_counted, rules)
+pub returns-in-Ok : goal.returns-in-Ok
+returns-in-Ok c =
+    room _ _ _ _ _ _ c.min-end.ensures (omega arith) (omega (arith, length-take c.in-Ok.ran.count c.in-Ok.ran.cells, c.in-Ok.ran.within)) c.show.ensures c.in-Ok.ensures
 
-pub returns-then-job-gt-LONGEST_JOB : goal.returns-then-job-gt-LONGEST_JOB
-returns-then-job-gt-LONGEST_JOB c = room_cut _ _ _ (search rules) c.print.ensures
-
-pub returns : goal.returns
-returns c = search (room, rules)
+pub returns-in-Err : goal.returns-in-Err
+returns-in-Err c =
+    room _ _ _ _ _ _ c.min-end.ensures (omega arith) (omega arith) c.show-in-Err.ensures (ap (λ a. shown a []) c.answer.ensures ∙ c.in-Err.ensures)

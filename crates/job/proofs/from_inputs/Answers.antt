@@ -1,26 +1,16 @@
-use native.Mathlib.Omega.{arith}
-use Rattle.job.proofs.Reading.{after_numbers, after_laws}
-use Rattle.job.proofs.Stages.{numbers_counted, numbers_few, stage_laws}
-use borrow.Author.Rules.{rules}
+use Rattle.std.proofs.Common.{ap, ◌∙◌, Some}
+use Rattle.std.proofs.lemmas.List.{map-id}
+use Rattle.std.proofs.lemmas.Result.{err_from_is_err_and}
+use Rattle.job.proofs.Stages.{line_bad, line_good, inputs_bad, inputs_read}
 use Rattle.job.proofs.from_inputs.Goals as goal
 
-pub returns-in_default : goal.returns-in_default
-returns-in_default c = search (stage_laws, rules)
-
-pub overflow_add-rest : goal.overflow_add-rest
-overflow_add-rest c = omega (arith, after_numbers _ _ c.line_length-line.ensures _ _ _ _ _ c.inputs_of.ensures.0 c.in-Count.is)
-
-pub slice_bounds-from_image-count : goal.slice_bounds-from_image-count
-slice_bounds-from_image-count c = search (after_laws, rules)
-
-pub slice_bounds-from_image-start : goal.slice_bounds-from_image-start
-slice_bounds-from_image-start c = search (after_laws, rules)
-
-pub slice_bounds-inputs-end : goal.slice_bounds-inputs-end
-slice_bounds-inputs-end c = omega (arith, numbers_few _ _ _ c.in-Count.is c.inputs_of.ensures.1)
-
-pub slice_bounds-from_image-end-2 : goal.slice_bounds-from_image-end-2
-slice_bounds-from_image-end-2 c = numbers_counted _ _ _ _ c.in-Count.is c.inputs_of.ensures.1 (search rules)
+pub returns-in_err-n : goal.returns-in_err-n
+returns-in_err-n c =
+    let p = err_from_is_err_and c.from_residual.result c.from_residual.ensures.1 in
+    let bad = line_bad _ _ _ _ _ c.numbers_of.ensures c.in_err-n.ensures.value in
+    rw (p.1, p.2, bad.0) (inputs_bad _ _ _ bad.1)
 
 pub returns : goal.returns
-returns c = search (stage_laws, rules)
+returns c =
+    let good = line_good _ _ _ _ _ c.numbers_of.ensures c.in_ok-n.ensures.value in
+    inputs_read _ _ _ _ _ _ (good.0 ∙ ap Some (map-id _)) good.2 c.from_image.ensures

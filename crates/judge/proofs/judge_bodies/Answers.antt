@@ -1,25 +1,13 @@
-use mathlib.Core.Path.{refl}
-use borrow.Author.Rules.{rules}
-use Rattle.judge.proofs.Loops.{heads_laws, heads_done, heads_rest}
+use Rattle.std.proofs.Common.{arith, refl}
+use Rattle.judge.proofs.Loops.{heads_turn, heads_done}
 use Rattle.judge.proofs.judge_bodies.Goals as goal
 
-pub loop-k-init : goal.loop-k-init
-loop-k-init c = (search rules, search heads_laws, search rules, search rules, refl)
-
-pub returns-then-table-line : goal.returns-then-table-line
-returns-then-table-line c = search heads_laws
-
-pub returns-then-not-body_fits : goal.returns-then-not-body_fits
-returns-then-not-body_fits c = search heads_laws
-
-pub returns-then-total-gt-INSTRUCTIONS : goal.returns-then-total-gt-INSTRUCTIONS
-returns-then-total-gt-INSTRUCTIONS c = search heads_laws
-
-pub loop-k-preserved : goal.loop-k-preserved
-loop-k-preserved c = (search rules, search heads_laws, search rules, search rules, search heads_laws)
+pub loop-line-preserved : goal.loop-line-preserved
+loop-line-preserved c =
+    let i = c.loop-line.invariant in
+    heads_turn _ _ _ _ c.requires c.loop-line.auto.line i.3 i.0 _ c.loop-line-test.true c.in_ok-head.ensures.there c.if-not-body_fits.ensures (omega arith)
 
 pub judge_instructions-requires : goal.judge_instructions-requires
-judge_instructions-requires c = search (heads_done, rules)
-
-pub returns : goal.returns
-returns c = search (heads_rest, rules)
+judge_instructions-requires c =
+    let i = c.loop-line.invariant in
+    heads_done _ _ _ _ c.requires c.loop-line.auto.line i.3 i.0 _ refl c.loop-line-test.false (omega arith) i.1 i.2

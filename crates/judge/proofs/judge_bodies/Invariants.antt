@@ -1,4 +1,4 @@
-use Prim.Native.Nat.{◌≤◌, ◌+◌, ◌-◌}
+use Prim.Native.Nat.{◌≤◌, ◌-◌}
 use mathlib.Core.Path.{◌≡◌}
 use lib.ListN.{length}
 use Rattle.image.specs.Limits.{most_instructions}
@@ -6,9 +6,6 @@ use Rattle.image.specs.Layout.{lengths}
 use Rattle.image.specs.Judge.{rest}
 use Rattle.judge.proofs.judge_bodies.Given as goal
 
-abbrev pub invariant-loop-k : goal.invariant-loop-k
-invariant-loop-k l =
-    (l.k ≤ l.bodies) × (l.total ≡ lengths l.table l.k) × (l.total ≤ most_instructions) × (l.k + 1 ≤ length l.table) × (rest l.table 1 ≡ rest l.table (l.k + 1))
-
-abbrev pub decreases-loop-k : goal.decreases-loop-k
-decreases-loop-k l = l.bodies - l.k
+abbrev pub invariant-loop-line : goal.invariant-loop-line
+invariant-loop-line l =
+    (l.total ≡ lengths l.table (l.line - 1)) × (l.total ≤ most_instructions) × (l.line ≤ length l.table) × (rest l.table 1 ≡ rest l.table l.line)

@@ -1,11 +1,8 @@
-use Prim.Native.Nat.{◌≤◌, ◌-◌}
+use Prim.Native.Nat.{◌≤◌}
 use mathlib.Core.Path.{◌≡◌}
 use lib.ListN.{length}
 use Rattle.image.specs.Judge.{rest}
 use Rattle.judge.proofs.judge_body.Given as goal
 
 abbrev pub invariant-loop-line : goal.invariant-loop-line
-invariant-loop-line l = (l.at ≤ l.line) × (l.line ≤ l.end) × (l.line ≤ length l.table) × (rest l.table l.at ≡ rest l.table l.line)
-
-abbrev pub decreases-loop-line : goal.decreases-loop-line
-decreases-loop-line l = l.end - l.line
+invariant-loop-line l = (l.line ≤ length l.table) × (rest l.table l.at ≡ rest l.table l.line)

@@ -21,7 +21,7 @@ loop-place-preserved c =
     elim c.match-e.branch [
       | in-Put w ↦ (rw (w.cells-is, w.place-is) (search (loop_puts, rules)), rw w.cells-is (search rules))
       | in-Next w ↦ (
-        rw (w.cells-is, w.place-is) (loop_nexts _ _ _ _ _ _ c.loop-place.invariant.0 c.loop-place-test.true (search rules) _ _ c.decode-i.ensures c.effect_of-e.ensures w.in-Next.is),
+        rw (w.cells-is, w.place-is) (loop_nexts _ _ _ _ _ _ c.loop-place.invariant.0 c.loop-place-test.true (search rules) _ _ c.from-i.ensures c.effect_of-e.ensures w.in-Next.is),
         rw w.cells-is (search rules),
       )
       | in-Go w ↦ (rw (w.cells-is, w.place-is) (search (loop_goes, rules)), rw w.cells-is (search rules))

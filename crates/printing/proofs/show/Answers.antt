@@ -1,12 +1,20 @@
-use Rattle.printing.proofs.Puts.{room_there, shown_in_laws}
-use borrow.Author.Rules.{rules}
+use Rattle.printing.proofs.Puts.{show_short, show_narrow, show_refused, show_whole}
 use Rattle.printing.proofs.show.Goals as goal
 
-pub put_shown-requires : goal.put_shown-requires
-put_shown-requires c = search (room_there, rules)
+pub returns-in_err-out : goal.returns-in_err-out
+returns-in_err-out c = rw c.from_residual.ensures (show_short _ _ _ c.args.out.now c.in_err-out.ensures.cases)
 
-pub returns-then-has_room : goal.returns-then-has_room
-returns-then-has_room c = search (shown_in_laws, rules)
+pub returns-then-lines-cells : goal.returns-then-lines-cells
+returns-then-lines-cells c =
+    let parts = c.in_ok-out.ensures.cases in
+    show_narrow _ _ _ _ parts.1 parts.2 _ parts.0 c.if-lines-cells.true
+
+pub returns-then-is_refusal : goal.returns-then-is_refusal
+returns-then-is_refusal c =
+    let parts = c.in_ok-out.ensures.cases in
+    show_refused _ _ _ _ parts.1 parts.2 _ c.if-lines-cells.false c.put_answer.ensures c.if-is_refusal.ensures
 
 pub returns : goal.returns
-returns c = search (shown_in_laws, rules)
+returns c =
+    let parts = c.in_ok-out.ensures.cases in
+    show_whole _ _ _ _ parts.1 parts.2 _ c.if-lines-cells.false c.put_answer.ensures _ c.if-is_refusal.ensures c.put_cells.ensures

@@ -1,9 +1,9 @@
 use Rattle.run.proofs.Ends.{run_told}
-use borrow.Author.Rules.{rules}
+use Rattle.turns.specs.Code.{lists_of}
 use Rattle.run.proofs.run_from.Goals as goal
 
-pub shape_of-places : goal.shape_of-places
-shape_of-places c = search (c.start-begun.auto, c.machine-n.auto, rules)
-
 pub returns : goal.returns
-returns c = run_told _ _ _ _ _ _ _ _ _ _ _ _ c.args.places.now _ _ _ _ _ _ c.requires.1 c.start-begun.ensures c.bound_of-bound.ensures c.machine-n.ensures c.answer_of.ensures
+returns c =
+    let a = c.args in
+    let j = a.job.now in
+    run_told j.table.now j.choices.now j.inputs.now j.firsts.now a.budget _ (lists_of a.s.now) a.s.now.places.now a.cells.now _ _ _ c.start-begun.ensures (rw c.from.ensures at c.machine-n.ensures.value) c.answer_of.ensures

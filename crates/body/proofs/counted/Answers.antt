@@ -1,4 +1,0 @@
-use Rattle.body.proofs.counted.Goals as goal
-
-pub returns : goal.returns
-returns c = rw c.one_less.ensures

@@ -1,5 +1,0 @@
-use Rattle.marking.proofs.Arms.{change_laws}
-use Rattle.marking.proofs.end.Goals as goal
-
-pub returns : goal.returns
-returns c = search change_laws

@@ -1,5 +1,0 @@
-use Rattle.marks.proofs.Arms.{straight_laws}
-use Rattle.marks.proofs.idle.Goals as goal
-
-pub returns : goal.returns
-returns c = search straight_laws

@@ -1,6 +1,0 @@
-use borrow.Author.Rules.{rules}
-use Rattle.laws.specs.Lists.{stores}
-use Rattle.plain.proofs.cell.Goals as goal
-
-pub returns : goal.returns
-returns c = search (stores, rules)

@@ -1,5 +1,0 @@
-use Rattle.waits.proofs.Arms.{waiter_laws}
-use Rattle.waits.proofs.trigger.Goals as goal
-
-pub returns-clause-value : goal.returns-clause-value
-returns-clause-value c = search waiter_laws
