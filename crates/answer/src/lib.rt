@@ -5,7 +5,6 @@ ghost use Rattle.std.specs.Prelude.{◌≡◌};
 ghost use Rattle.turns.specs.Code.{answer_as, answered};
 ghost use Rattle.answer.specs.Answer.{said};
 
-use ending::Ending;
 use turns::{Control, Now};
 
 // What a run answers: its number, the body and place of the stopping instruction, the time, the instructions completed, the choices
@@ -23,12 +22,12 @@ pub struct Answer {
     pub threads: u32,
 }
 
-// The answer of a run that is over for k, at place p of body b. Field by field, since the state is of another type.
-fn answer_as(n: Now, budget: u32, k: Ending, b: usize, p: usize) -> Answer
+// The answer of a run that is over with number k, at place p of body b. Field by field, since the state is of another type.
+fn answer_as(n: Now, budget: u32, k: u8, b: usize, p: usize) -> Answer
     ensures { said result ≡ answer_as budget n k b p }
 {
     Answer {
-        number: u32::from(k.number()),
+        number: u32::from(k),
         body: (b % 0x1_0000_0000) as u32,
         place: (p % 0x1_0000_0000) as u32,
         time: n.time,
@@ -46,6 +45,6 @@ pub fn answer_of(n: Now, budget: u32) -> Answer
 {
     match n.control {
         Control::Over(k, b, p) => answer_as(n, budget, k, b, p),
-        _ => answer_as(n, budget, Ending::Quiet, 0, 0),
+        _ => answer_as(n, budget, 0, 0, 0),
     }
 }

@@ -8,7 +8,7 @@ use Rattle.word.specs.Word.{bitwise, and_b, or_b}
 
 -- for an operation g that goes bit by bit by f and is 0 at 0
 module _ (g f : ℕ → ℕ → ℕ) (step : (a b : ℕ) → g a b ≡ g (a / 2) (b / 2) * 2 + f (a % 2) (b % 2)) (none : g 0 0 ≡ 0) where
-  by_bits : (k a b : ℕ) → a < 2 ^ k → b < 2 ^ k → g a b ≡ bitwise f k a b
+  pub by_bits : (k a b : ℕ) → a < 2 ^ k → b < 2 ^ k → g a b ≡ bitwise f k a b
   unfolding bitwise
   by_bits zero a b h l =
       let p : a ≡ 0 = omega arith in

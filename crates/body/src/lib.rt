@@ -90,7 +90,7 @@ fn obey_at(
             slots::put(s.places, b, p + 1);
             n
         }
-        Err(k) => n.to(Control::Over(k, b, p)),
+        Err(k) => n.to(Control::Over(k.number(), b, p)),
     }
 }
 
@@ -113,7 +113,7 @@ fn after_plain(
     let p = ran.place;
     match ran.end {
         End::Ended => moves::end_body(n, b, threads),
-        End::Stopped(k) => n.to(Control::Over(k, b, p)),
+        End::Stopped(k) => n.to(Control::Over(k.number(), b, p)),
         End::Left => obey_at(
             Frame::from(job.table[base + p]),
             job.inputs,

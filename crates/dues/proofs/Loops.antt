@@ -5,12 +5,9 @@ use mathlib.Core.List.{List, [], ◌∷◌, map}
 use native.Mathlib.Nat.{le_of_suc-le-suc, not-suc-le-zero, suc-min-suc, add_comm}
 use native.Mathlib.Numerals.{add-one}
 use native.Mathlib.Omega.{arith}
-use lib.ListN.{length, get_or, set, take}
-use lib.Seq.{take-length}
+use lib.ListN.{length, get_or, set}
 use lib.Dec.{eqb, eqb-suc-zero}
 use Rattle.std.proofs.Common.{Bool, cond}
-use Rattle.std.proofs.lemmas.List.Sums.{length-filter, sum_by_more}
-use Rattle.std.specs.List.{filter, count_by}
 use borrow.Author.Tests.{eq-eqb, ne_eqb}
 use Rattle.sets.specs.Sets.{with}
 use Rattle.kernel.specs.Search.{Found, none, found, lesser, least, sum}
@@ -162,25 +159,37 @@ least_both ps ws a c r d h g e k = rw (k, e, lesser_of a c h.some g.some, h.is, 
 
 -- Sums ---------------------------------------------------------------------------------------------------------
 
-abbrev times : ℕ → Bool
-times c = eqb (is_time (pend_of c)) 1
+-- the flag of a due time, as a number
+flag : (d : Due) → cond (eqb (is_time d) 1) 1 0 ≡ is_time d
+flag never = refl
+flag delta = refl
+flag (at t) = refl
 
-time_once : (d : Due) → cond (eqb (is_time d) 1) 1 0 ≡ is_time d
-time_once never = refl
-time_once delta = refl
-time_once (at t) = refl
+time_once : (d : Due) → is_time d ≤ 1
+time_once never = omega arith
+time_once delta = omega arith
+time_once (at t) = omega arith
 
 module _ (cs : List ℕ) where
-  counted : (i : ℕ) → i ≤ length cs → count_by times (take i cs) ≡ sum (count_at cs) i
+  pub times_start : 0 ≡ sum (count_at cs) 0
   unfolding sum
-  counted zero h = refl
-  counted (suc i) h =
-      let k : i < length cs = omega arith in
-      let s : count_by times (take (suc i) cs) ≡ count_by times (take i cs) + cond (times (get_or cs i 0)) 1 0 = rw (← add-one i) (sum_by_more (λ c. cond (times c) 1 0) cs i 0 k) in
-      s ∙ rw (counted i (omega arith), time_once (pend_of (get_or cs i 0))) (add_comm (sum (count_at cs) i) (count_at cs i))
+  times_start = refl
 
-  pub times_counted : (n : ℕ) → n ≡ length (filter times cs) → n ≡ sum (count_at cs) (length cs)
-  times_counted n h = h ∙ length-filter times cs ∙ ap (count_by times) (sym (take-length cs)) ∙ counted (length cs) (omega arith)
+  pub times_turn : (i n r : ℕ) → n ≡ sum (count_at cs) i → r ≡ is_time (pend_of (get_or cs i 0)) → n + r ≡ sum (count_at cs) (i + 1)
+  unfolding sum
+  times_turn i n r h e = rw (add-one i, ← h, ← e) (add_comm n r)
+
+  pub times_end : (i n m : ℕ) → n ≡ sum (count_at cs) i → i ≤ m → m ≤ i → m ≡ length cs → n ≡ sum (count_at cs) (length cs)
+  times_end i n m e f g k = at_end_lem ℕ (sum (count_at cs)) n i m (length cs) e f g k
+
+pub one_time : (c r : ℕ) → r ≡ is_time (pend_of c) → r ≤ 1
+one_time c r e = rw e (time_once (pend_of c))
+
+-- a flag counts as the time that it tells of
+pub flag_counts : (c r : ℕ) (b : Bool) → b ≡ eqb (is_time (pend_of c)) 1 → r ≡ cond b 1 0 → r ≡ is_time (pend_of c)
+flag_counts c r b h e = e ∙ ap (λ (z : Bool). cond z 1 0) h ∙ flag (pend_of c)
 
 pub times_both : (ps ws : List ℕ) (n m : ℕ) → n ≡ sum (count_at ps) (length ps) → m ≡ sum (count_at ws) (length ws) → n + m ≡ sum (count_at ps) (length ps) + sum (count_at ws) (length ws)
 times_both ps ws n m h g = rw (h, g)
+
+pub ruleset times_laws = (times_start, times_turn, times_end, flag_counts)

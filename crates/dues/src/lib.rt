@@ -62,12 +62,17 @@ fn is_time(c: u64) -> bool
     0 < c && c <= LAST_TIME
 }
 
-// How many due times stand among the codes.
+// How many due times stand among the codes. By a sum: with `filter` and `count` an element takes nearly twice the instructions.
+#[tactic(auto, using(crate::proofs::Loops::times_laws))]
 fn times_in(codes: &[u64]) -> usize
     ensures value { result ≡ sum (count_at codes.now) (length codes.now) }
     ensures upper_bound { result ≤ length codes.now }
 {
-    codes.iter().filter(|&&c| is_time(c)).count()
+    let mut times: usize = 0;
+    for &c in codes {
+        times += usize::from(is_time(c));
+    }
+    times
 }
 
 // How many due times stand.

@@ -19,6 +19,7 @@ use Rattle.turns.specs.declared.Control.{Control}
 use Rattle.turns.specs.declared.Control.TheVariants.{Runs, UpdatePhase, DeltaPhase, Turn, Evaluation, TimePhase, Over}
 use Rattle.ending.specs.declared.Ending.{Ending}
 use Rattle.ending.specs.declared.Ending.TheVariants.{NoChoiceLeft, NotRunnable}
+use Rattle.ending.specs.Ending.{number_of}
 use Rattle.turns.specs.declared.Now.{Now}
 use Rattle.turns.specs.Code.{goes_to, dispatch, chosen_by, choice_by, idle_or, evaluated, settled_from, settled}
 
@@ -53,7 +54,7 @@ module _ (choices : List ℕ) (n : Now) (r : Result ℕ Ending) (h : r ≡ choic
   unfolding evaluated
   evaluated_chosen to c d e q = ap (λ (i : ℕ). dispatch i n) q ∙ by (nth choices n.chosen) refl (sym h ∙ e)
     where
-      named : (d : ℕ) (z : Bool) → may_run n.marks d ≡ z → if◌then◌else◌ {A = Result ℕ Ending} z (Ok d) (Err NotRunnable) ≡ Ok c → dispatch c n ≡ (if any_runs n.marks then (if z then dispatch d n else goes_to (Over NotRunnable 0xff 0) n) else goes_to to n)
+      named : (d : ℕ) (z : Bool) → may_run n.marks d ≡ z → if◌then◌else◌ {A = Result ℕ Ending} z (Ok d) (Err NotRunnable) ≡ Ok c → dispatch c n ≡ (if any_runs n.marks then (if z then dispatch d n else goes_to (Over (number_of NotRunnable) 0xff 0) n) else goes_to to n)
       named d true q y = rw (one_of_lem n.marks d q) (ap (λ (i : ℕ). dispatch i n) cc)
       named d false q y = cc
 
@@ -65,12 +66,16 @@ module _ (choices : List ℕ) (n : Now) (r : Result ℕ Ending) (h : r ≡ choic
   unfolding evaluated
   evaluated_refused to k x e y = y ∙ by (nth choices n.chosen) refl (sym h ∙ e)
     where
-      named : (d : ℕ) (z : Bool) → if◌then◌else◌ {A = Result ℕ Ending} z (Ok d) (Err NotRunnable) ≡ Err k → (if z then dispatch d n else goes_to (Over NotRunnable 0xff 0) n) ≡ goes_to (Over k 0xff 0) n
+      named : (d : ℕ) (z : Bool) → if◌then◌else◌ {A = Result ℕ Ending} z (Ok d) (Err NotRunnable) ≡ Err k → (if z then dispatch d n else goes_to (Over (number_of NotRunnable) 0xff 0) n) ≡ goes_to (Over (number_of k) 0xff 0) n
       named d true y = cc
-      named d false y = ap (λ (i : Ending). goes_to (Over i 0xff 0) n) cc
+      named d false y =
+          let e : NotRunnable ≡ k = cc in
+          ap (λ (i : Ending). goes_to (Over (number_of i) 0xff 0) n) e
 
       by : (f : Found) → nth choices n.chosen ≡ f → choice_by f n.marks ≡ Err k → idle_or k to n ≡ (if any_runs n.marks then chosen_by f n else goes_to to n)
-      by none g y = ap (λ (i : Ending). idle_or i to n) cc
+      by none g y =
+          let e : k ≡ NoChoiceLeft = cc in
+          ap (λ (i : Ending). idle_or i to n) e
       by (found d) g y = ap (λ (w : Now). if any_runs n.marks then w else goes_to to n) (sym (named d (may_run n.marks d) y))
 
 pub ruleset evaluated_laws = (evaluated_chosen, evaluated_refused)

@@ -30,7 +30,7 @@ fn idle_or(n: Now, k: Ending, idle: Control) -> Now
     ensures { result ≡ idle_or k idle n }
 {
     if n.marks.any_runnable() {
-        return n.to(Control::Over(k, 0xff, 0));
+        return n.to(Control::Over(k.number(), 0xff, 0));
     }
     n.to(idle)
 }

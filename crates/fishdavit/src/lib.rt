@@ -9,7 +9,7 @@ ghost use Rattle.answer.specs.Answer.{said as ran_to};
 ghost use Rattle.fishdavit.specs.Plain.{plain, Small};
 
 use answer::Answer;
-use image::Verdict;
+use image::{Says, Verdict};
 
 // Document 01's number, and the line of the first fault or the count that was done.
 #[repr(C)]
@@ -24,15 +24,9 @@ fn told(v: Verdict) -> FishdavitVerdict
     requires { Small (said v) }
     ensures { plain result ≡ said v }
 {
-    match v {
-        Ok(n) => FishdavitVerdict {
-            number: 0,
-            line: n as u32,
-        },
-        Err(r) => FishdavitVerdict {
-            number: r.number() as u32,
-            line: r.line() as u32,
-        },
+    FishdavitVerdict {
+        number: v.number() as u32,
+        line: v.line() as u32,
     }
 }
 

@@ -2,7 +2,7 @@
 #![tactic(auto)]
 
 ghost use Rattle.std.specs.Prelude.{◌≡◌, Err};
-ghost use Rattle.image.specs.Judge.{said};
+ghost use Rattle.image.specs.Judge.{Said, said};
 
 // The type of design images, which owns their limits.
 #[derive(Clone, Copy)]
@@ -70,6 +70,35 @@ impl Refusal {
             Refusal::Short(n) | Refusal::Extra(n) => n,
             Refusal::Header => 0,
             Refusal::Room => 0,
+        }
+    }
+}
+
+// What is said of an answer: its number, and the line of the first fault or the count that was done.
+pub trait Says: Copy {
+    ghost says: { Self → Said };
+
+    fn number(self) -> u8
+        ensures { result ≡ (says self).number };
+
+    fn line(self) -> usize
+        ensures { result ≡ (says self).line };
+}
+
+impl Says for Verdict {
+    ghost says = { said };
+
+    fn number(self) -> u8 {
+        match self {
+            Ok(_) => 0,
+            Err(refusal) => refusal.number(),
+        }
+    }
+
+    fn line(self) -> usize {
+        match self {
+            Ok(count) => count,
+            Err(refusal) => refusal.line(),
         }
     }
 }

@@ -19,7 +19,7 @@ pub struct Marks {
 
 impl Marks {
     ghost use Rattle.sets.specs.Sets.{with};
-    ghost use Rattle.marks.specs.Marks.{idle, may_run, any_runs, first_asked, found_of, not_ended, first_marks, with_pending, waits_on, waits_till, suspended, resumed, ended_by, requested_by, finished_by};
+    ghost use Rattle.marks.specs.Marks.{idle, may_run, any_runs, first_asked, found_of, not_ended, first_marks, with_waiting, with_pending, waits_on, waits_till, suspended, resumed, ended_by, requested_by, finished_by};
 
     // The first marks of so many threads.
     pub fn new(threads: usize) -> Marks
@@ -78,14 +78,25 @@ impl Marks {
         sets::minus(0xffff_ffff, self.ended)
     }
 
+    // The threads of the set x wait.
+    pub fn with_waiting(self, x: u32) -> Marks
+        ensures { result ≡ with_waiting x self }
+    {
+        Marks { waiting: x, ..self }
+    }
+
+    // The events of the set x pend for the delta phase.
+    pub fn with_pending(self, x: u32) -> Marks
+        ensures { result ≡ with_pending x self }
+    {
+        Marks { pending: x, ..self }
+    }
+
     // Thread i waits for an event or a time.
     pub fn wait(self, i: usize) -> Marks
         ensures { result ≡ waits_on i self }
     {
-        Marks {
-            waiting: sets::with(self.waiting, i),
-            ..self
-        }
+        self.with_waiting(sets::with(self.waiting, i))
     }
 
     // Thread i waits for the delta phase.
@@ -103,10 +114,7 @@ impl Marks {
     pub fn pend(self, e: usize) -> Marks
         ensures { result ≡ with_pending (with self.pending e) self }
     {
-        Marks {
-            pending: sets::with(self.pending, e),
-            ..self
-        }
+        self.with_pending(sets::with(self.pending, e))
     }
 
     // Suspends thread i at once and drops its pending resume; an ended thread stays as it is.

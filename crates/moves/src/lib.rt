@@ -72,7 +72,7 @@ pub fn end_body(n: Now, b: usize, threads: usize) -> Now
     ensures { result ≡ ends_to threads b n }
 {
     if b == 0 {
-        return n.to(Control::Over(ending_of(n.stage), 0xff, 0));
+        return n.to(Control::Over(ending_of(n.stage).number(), 0xff, 0));
     }
     if b <= threads {
         return n.to_marks(Control::Evaluation, n.marks.end(b - 1));

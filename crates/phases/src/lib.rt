@@ -49,8 +49,5 @@ pub fn serve_time(
 {
     let threads = dues::take_due(waits, q);
     let events = dues::take_due(pends, q);
-    Marks {
-        waiting: free_all(sets::minus(m.waiting, threads), events, waiters),
-        ..m
-    }
+    m.with_waiting(free_all(sets::minus(m.waiting, threads), events, waiters))
 }

@@ -23,8 +23,6 @@ use Rattle.shows.specs.Shows.{kept, Few as Room}
 use Rattle.shows.proofs.Asks.{not_ended_is}
 use Rattle.shows.proofs.Serves.{first_shows}
 use Rattle.turns.specs.declared.Control.{Control}
-use Rattle.ending.specs.declared.Ending.{Ending as Reason}
-use Rattle.ending.specs.Ending.{number_of as reason_number}
 use Rattle.turns.specs.declared.Control.TheVariants.{Runs, UpdatePhase, DeltaPhase, Turn, Evaluation, TimePhase, Over}
 use Rattle.turns.specs.Stands.{place_of, body_of}
 use Rattle.turns.specs.Code.{Code, code, turn, turns, answer_as, answer_from, answered, told, first_now, first_ran, first_lists}
@@ -63,7 +61,7 @@ is_done evaluation = false
 is_done time_phase = false
 
 module _ (j : Job) (lent rest : List ℕ) (r : rest ≡ drop (cells j.table) lent) (s : State) (c : Code) (st : StandsAt j rest s c) (z : Few j s.machine) (small : j.budget < 4294967296) (short : length j.choices ≤ 4096) where
-  told_as : (k : Reason) → (b p : ℕ) → (b < 4294967296) × (p < 4294967296) → ends j lent s (reason_number k) b p ≡ record { answer = answer_as j.budget c.now k b p; cells = c.cells }
+  told_as : (k b p : ℕ) → (b < 4294967296) × (p < 4294967296) → ends j lent s k b p ≡ record { answer = answer_as j.budget c.now k b p; cells = c.cells }
   told_as k b p h =
       let x : b % 4294967296 ≡ b = omega (arith, h.0) in
       let y : p % 4294967296 ≡ p = omega (arith, h.1) in

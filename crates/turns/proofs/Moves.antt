@@ -29,6 +29,7 @@ use Rattle.shows.proofs.Happens.{shows_again}
 use Rattle.shows.proofs.Serves.{serves_delta as shows_delta, serves_time as shows_time}
 use Rattle.turns.specs.declared.Control.{Control}
 use Rattle.ending.specs.declared.Ending.TheVariants.{NoChoiceLeft, NotRunnable}
+use Rattle.ending.specs.Ending.{number_of}
 use Rattle.turns.specs.declared.Control.TheVariants.{Runs, UpdatePhase, DeltaPhase, Evaluation, TimePhase, Over}
 use Rattle.turns.specs.declared.Now.{Now}
 use Rattle.turns.specs.declared.Stage.{Stage}
@@ -79,8 +80,8 @@ module _ (j : Job) (rest : List ℕ) (s : State) (n : Now) (l : Lists) (ps cs : 
       stood : m.control ≡ evaluation
       stood = sym st.counts.control ∙ here
 
-      by_choice : any (runnable t k) (threads t) ≡ true → (c : ℕ) → nth j.choices m.choices ≡ found c → (b : Bool) → runnable t k c ≡ b → Stands j rest (step j s) (if b then dispatch c n else goes_to (Over NotRunnable 0xff 0) n) l ps cs
-      by_choice a c e false r = goes_to_lem (Over NotRunnable 0xff 0) (over 21 0xff 0) refl (step_refuses j s c stood a e r)
+      by_choice : any (runnable t k) (threads t) ≡ true → (c : ℕ) → nth j.choices m.choices ≡ found c → (b : Bool) → runnable t k c ≡ b → Stands j rest (step j s) (if b then dispatch c n else goes_to (Over (number_of NotRunnable) 0xff 0) n) l ps cs
+      by_choice a c e false r = goes_to_lem (Over (number_of NotRunnable) 0xff 0) (over 21 0xff 0) refl (step_refuses j s c stood a e r)
       by_choice a c e true r =
           let d : step j s ≡ advance s (out (dispatched c ∷ []) (go_to (running (thread c)) (chose m))) = step_dispatches j s c stood a e r in
           let f : Fits t (kernel (step j s).history) (step j s).machine.control = fits_step j s st.fits in
@@ -100,7 +101,7 @@ module _ (j : Job) (rest : List ℕ) (s : State) (n : Now) (l : Lists) (ps cs : 
       next f e = ap (nth j.choices) (sym st.counts.choices) ∙ e
 
       chosen : any (runnable t k) (threads t) ≡ true → (f : Found) → nth j.choices n.chosen ≡ f → Stands j rest (step j s) (chosen_by f n) l ps cs
-      chosen a none e = goes_to_lem (Over NoChoiceLeft 0xff 0) (over 20 0xff 0) refl (step_unchosen j s stood a (next none e))
+      chosen a none e = goes_to_lem (Over (number_of NoChoiceLeft) 0xff 0) (over 20 0xff 0) refl (step_unchosen j s stood a (next none e))
       chosen a (found c) e = rw (may_run_lem t k (kept n.marks l) st.shows c) (by_choice a c (next (found c) e) (runnable t k c) refl)
 
       some : (b : Bool) → any (runnable t k) (threads t) ≡ b → Stands j rest (step j s) (if any_runs n.marks then chosen_by (nth j.choices n.chosen) n else goes_to UpdatePhase n) l ps cs

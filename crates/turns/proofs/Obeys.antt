@@ -135,7 +135,7 @@ module _ (j : Job) (rest : List ℕ) (good : (judged j.table).number ≡ 0) (b :
   stops_run : (c : Reason) → effect_of j s body ≡ stops (reason_number c) → Follows (stopped c x cs)
   unfolding Follows perform
   stops_run c f =
-      goes_to_lem j rest s now l (set ps b p) cs st (Over c b p) (over (reason_number c) (number t body) (m.places (number t body)))
+      goes_to_lem j rest s now l (set ps b p) cs st (Over (reason_number c) b p) (over (reason_number c) (number t body) (m.places (number t body)))
       (rw (placed_at, number_of t b)) (step_is (stops (reason_number c)) f)
 
   -- where a body stands after what it asked of the kernel

@@ -82,9 +82,9 @@ module _ (j : Job) (rest : List ℕ) (s : State) (b : ℕ) (n : Now) (l : Lists)
   number_said Quiet = refl
   number_said Limited = refl
 
-  main_ends : m.control ≡ running main → due j s main ≡ false → Stands j rest (step j s) (goes_to (Over (phase_ending n.stage) 0xff 0) n) l ps cs
+  main_ends : m.control ≡ running main → due j s main ≡ false → Stands j rest (step j s) (goes_to (Over (reason_number (phase_ending n.stage)) 0xff 0) n) l ps cs
   main_ends e d =
-      goes_to_lem j rest s (goes_to (Runs b) n) l ps cs st (Over (phase_ending n.stage) 0xff 0) (over (end_number j s k.stage) 0xff 0)
+      goes_to_lem j rest s (goes_to (Runs b) n) l ps cs st (Over (reason_number (phase_ending n.stage)) 0xff 0) (over (end_number j s k.stage) 0xff 0)
       (ap (λ (x : ℕ). over x 0xff 0) (number_said n.stage ∙ ap (end_number j s) st.counts.stage)) (step_main_ends j s e d)
 
   -- the numbers that show the kernel
@@ -125,7 +125,7 @@ module _ (j : Job) (rest : List ℕ) (s : State) (b : ℕ) (n : Now) (l : Lists)
           let v : suc q - 1 ≡ q = omega arith in
           rw (lt-leb (suc q) T (omega (arith, ltb-false q T r)), v) (update_ends (q - T) e d)
 
-      by : (b : ℕ) → m.control ≡ running (body_of T b) → due j s (body_of T b) ≡ false → Stands j rest (step j s) (if eqb b 0 then goes_to (Over (phase_ending n.stage) 0xff 0) n else (if leb b T then marks_to Evaluation (ended_by (b - 1) n.marks) n else marks_to UpdatePhase (finished_by (b - 1 - T) n.marks) n)) l ps cs
+      by : (b : ℕ) → m.control ≡ running (body_of T b) → due j s (body_of T b) ≡ false → Stands j rest (step j s) (if eqb b 0 then goes_to (Over (reason_number (phase_ending n.stage)) 0xff 0) n else (if leb b T then marks_to Evaluation (ended_by (b - 1) n.marks) n else marks_to UpdatePhase (finished_by (b - 1 - T) n.marks) n)) l ps cs
       by zero e d = main_ends e d
       by (suc q) e d = rw (ne_eqb (suc q) 0 (λ z. omega arith)) (by_kind q (ltb q T) refl e d)
 
@@ -185,7 +185,7 @@ module _ (j : Job) (rest firsts : List ℕ) (g : Given j rest firsts) where
         stopped : (c : Reason) → step j s' ≡ advance s' (perform j s' (body_of (threads tb) b) (stops (reason_number c))) → StandsAt j rest (step j s') (ran_to tb j.inputs (threads tb) (first tb b) b (Stopped c) p now l (set ps b p) ds)
         unfolding perform
         stopped c e =
-            goes_to_lem j rest s' now l (set ps b p) ds sp (Over c b p) (over (reason_number c) (number tb (body_of (threads tb) b)) (s'.machine.places (number tb (body_of (threads tb) b))))
+            goes_to_lem j rest s' now l (set ps b p) ds sp (Over (reason_number c) b p) (over (reason_number c) (number tb (body_of (threads tb) b)) (s'.machine.places (number tb (body_of (threads tb) b))))
             (rw (place_is j rest g.good b there s' n l ps ds x p sp, number_of tb b)) e
 
         lost : {A : Type 0} → false ≡ true → A
@@ -305,7 +305,7 @@ module _ (j : Job) (rest firsts : List ℕ) (g : Given j rest firsts) where
   unfolding evaluated
   settled_by idle n h = on (any_runs n.marks) (nth j.choices n.chosen)
     where
-      named : (z : Bool) (i : ℕ) → unsettled (if z then dispatch i n else goes_to (Over NotRunnable 0xff 0) n).control ≡ false
+      named : (z : Bool) (i : ℕ) → unsettled (if z then dispatch i n else goes_to (Over (reason_number NotRunnable) 0xff 0) n).control ≡ false
       named true i = refl
       named false i = refl
 
@@ -362,7 +362,7 @@ module _ (j : Job) (rest firsts : List ℕ) (g : Given j rest firsts) where
       by Evaluation e = lost Evaluation refl e
       by (Over k b p) e =
           reaches_one j rest s c
-          (subst (λ (x : State). StandsAt j rest x c) (sym (stays j s (record { number = reason_number k; body = b; place = p; is = sym st.counts.control ∙ stood (Over k b p) e }))) st)
+          (subst (λ (x : State). StandsAt j rest x c) (sym (stays j s (record { number = k; body = b; place = p; is = sym st.counts.control ∙ stood (Over k b p) e }))) st)
 
   pub turn_follows : (s : State) (c : Code) → StandsAt j rest s c → Reaches j rest s (turn j.table j.choices j.inputs firsts (threads j.table) c)
   unfolding turn

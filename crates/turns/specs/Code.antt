@@ -77,8 +77,8 @@ abbrev pub dispatch : ℕ → Now → Now
 dispatch c n = record n { control = Runs (c + 1); chosen = n.chosen + 1 }
 
 abbrev pub chosen_by : Found → Now → Now
-chosen_by none n = goes_to (Over NoChoiceLeft 0xff 0) n
-chosen_by (found c) n = if may_run n.marks c then dispatch c n else goes_to (Over NotRunnable 0xff 0) n
+chosen_by none n = goes_to (Over (number_of NoChoiceLeft) 0xff 0) n
+chosen_by (found c) n = if may_run n.marks c then dispatch c n else goes_to (Over (number_of NotRunnable) 0xff 0) n
 
 -- and where no thread is runnable the machine goes to `idle`
 unfoldable pub evaluated : (choices : List ℕ) → (idle : Control) → Now → Now
@@ -91,7 +91,7 @@ choice_by none m = Err NoChoiceLeft
 choice_by (found c) m = if may_run m c then Ok c else Err NotRunnable
 
 abbrev pub idle_or : (k : Ending) → (idle : Control) → Now → Now
-idle_or k idle n = if any_runs n.marks then goes_to (Over k 0xff 0) n else goes_to idle n
+idle_or k idle n = if any_runs n.marks then goes_to (Over (number_of k) 0xff 0) n else goes_to idle n
 
 -- The update phase; t is the number of threads ----------------------------------------------------------------
 
@@ -159,7 +159,7 @@ is_thread t b = between 1 b t
 
 unfoldable pub ends_to : (t b : ℕ) → Now → Now
 ends_to t b n =
-    if eqb b 0 then goes_to (Over (phase_ending n.stage) 0xff 0) n
+    if eqb b 0 then goes_to (Over (number_of (phase_ending n.stage)) 0xff 0) n
     else (if leb b t then marks_to Evaluation (ended_by (b - 1) n.marks) n else marks_to UpdatePhase (finished_by (b - 1 - t) n.marks) n)
 
 -- An instruction that is not plain ------------------------------------------------------------------------------
@@ -288,7 +288,7 @@ next_input c taken = if ltb taken c then taken + 1 else taken
 
 -- an instruction of body b at place p is completed, or stops the run
 abbrev pub completed_to : (t c b p : ℕ) → Result Obeyed Ending → Marks → Now → Now
-completed_to t c b p (Err k) m n = goes_to (Over k b p) n
+completed_to t c b p (Err k) m n = goes_to (Over (number_of k) b p) n
 completed_to t c b p (Ok Goes) m n = with_left (n.left - 1) (marks_to (stays_at t b m) m n)
 completed_to t c b p (Ok Waits) m n = with_left (n.left - 1) (marks_to Evaluation m n)
 completed_to t c b p (Ok Took) m n = record n { control = Runs b; left = n.left - 1; taken = next_input c n.taken }
@@ -307,7 +307,7 @@ completed t c b p d n ps =
 module _ (table inputs : List ℕ) (t base b : ℕ) where
   abbrev pub ran_to : End → (p : ℕ) → Now → Lists → (ps cs : List ℕ) → Code
   ran_to Ended p n l ps cs = code (ends_to t b n) l ps cs
-  ran_to (Stopped k) p n l ps cs = code (goes_to (Over k b p) n) l ps cs
+  ran_to (Stopped k) p n l ps cs = code (goes_to (Over (number_of k) b p) n) l ps cs
   ran_to Left p n l ps cs =
       let i : Frame = fields (get_or table (base + p) 0) in
       completed t (length inputs) b p (obeyed t b i n inputs (kept n.marks l) cs (meaning_of i.op)) n ps
@@ -416,10 +416,10 @@ zeroed (suc n) (x ∷ cs) = 0 ∷ zeroed n cs
 
 -- What is told at the end ---------------------------------------------------------------------------------------
 
--- the answer of a run that is over for k, in body b at place p, had it this budget; its fields have 32 bits
-abbrev pub answer_as : (budget : ℕ) → Now → (k : Ending) → (b p : ℕ) → Told
+-- the answer of a run that is over with number k, body b and place p, had it this budget; its fields have 32 bits
+abbrev pub answer_as : (budget : ℕ) → Now → (k b p : ℕ) → Told
 answer_as budget n k b p = record {
-  number = number_of k;
+  number = k;
   body = b % 4294967296;
   place = p % 4294967296;
   time = n.time;
@@ -435,12 +435,12 @@ refused_at n i = record { number = n; body = 0xff; place = i % 4294967296; time 
 -- (a run is over when it is told, so the other cases never arise)
 abbrev pub answer_from : (budget : ℕ) → Now → Control → Told
 answer_from budget n (Over k b p) = answer_as budget n k b p
-answer_from budget n (Runs b) = answer_as budget n QuietEnding 0 0
-answer_from budget n UpdatePhase = answer_as budget n QuietEnding 0 0
-answer_from budget n DeltaPhase = answer_as budget n QuietEnding 0 0
-answer_from budget n Turn = answer_as budget n QuietEnding 0 0
-answer_from budget n Evaluation = answer_as budget n QuietEnding 0 0
-answer_from budget n TimePhase = answer_as budget n QuietEnding 0 0
+answer_from budget n (Runs b) = answer_as budget n 0 0 0
+answer_from budget n UpdatePhase = answer_as budget n 0 0 0
+answer_from budget n DeltaPhase = answer_as budget n 0 0 0
+answer_from budget n Turn = answer_as budget n 0 0 0
+answer_from budget n Evaluation = answer_as budget n 0 0 0
+answer_from budget n TimePhase = answer_as budget n 0 0 0
 
 unfoldable pub answered : (budget : ℕ) → Now → Told
 answered budget n = answer_from budget n n.control

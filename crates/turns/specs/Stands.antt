@@ -7,7 +7,6 @@ use Rattle.kernel.specs.Kernel.{Kernel, kernel, Stage as KernelStage, before, du
 use Rattle.kernel.specs.Machine.{Job, Control as Place, running, update_phase, delta_phase, turn, evaluation, time_phase, over, Machine, State}
 use Rattle.kernel.proofs.Fits.{Fits}
 use Rattle.shows.specs.Shows.{Lists, kept, Shows}
-use Rattle.ending.specs.Ending.{number_of}
 use Rattle.turns.specs.declared.Control.{Control}
 use Rattle.turns.specs.declared.Control.TheVariants.{Runs, UpdatePhase, DeltaPhase, Turn, Evaluation, TimePhase, Over}
 use Rattle.turns.specs.declared.Stage.{Stage}
@@ -27,7 +26,7 @@ place_of t DeltaPhase = delta_phase
 place_of t Turn = turn
 place_of t Evaluation = evaluation
 place_of t TimePhase = time_phase
-place_of t (Over k b p) = over (number_of k) b p
+place_of t (Over n b p) = over n b p
 
 -- the limit
 abbrev pub limit_of : Option ℕ → Found

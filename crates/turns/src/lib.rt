@@ -5,10 +5,10 @@
 ghost use Rattle.std.specs.Prelude.{◌≡◌};
 ghost use Rattle.turns.specs.Code.{threads_of, goes_to, marks_to};
 
-use ending::Ending;
 use marks::Marks;
 
 // Where the machine stands: body b runs, a phase, the turn to evaluation or time, or the run is over: why, in which body and at which place.
+// Why is a number here and no Ending: what takes a Now promises its answer for every number that a run could be over with.
 #[derive(Clone, Copy)]
 pub enum Control {
     Runs(usize),
@@ -17,7 +17,7 @@ pub enum Control {
     Turn,
     Evaluation,
     TimePhase,
-    Over(Ending, usize, usize),
+    Over(u8, usize, usize),
 }
 
 // How far the phase is: main has not begun it, it runs, or it is over, as quiet or by its limit.
