@@ -75,7 +75,8 @@ fn times_in(codes: &[u64]) -> usize
     times
 }
 
-// How many due times stand.
+// How many due times stand. Asked for in few designs: where its loops stand in the machine's turn, every dispatch takes more instructions.
+#[inline(never)]
 #[tactic(auto, using(crate::proofs::Loops::times_both))]
 pub fn count_times(pends: &[u64], waits: &[u64]) -> usize
     ensures { result ≡ sum (count_at pends.now) (length pends.now) + sum (count_at waits.now) (length waits.now) }

@@ -8,7 +8,7 @@ ghost use Rattle.turns.specs.Code.{threads_of, goes_to, marks_to};
 use marks::Marks;
 
 // Where the machine stands: body b runs, a phase, the turn to evaluation or time, or the run is over: why, in which body and at which place.
-// Why is a number here and no Ending: what takes a Now promises its answer for every number that a run could be over with.
+// Why is said by its number and not as an `Ending`, since what takes a `Now` promises its answer for each u8.
 #[derive(Clone, Copy)]
 pub enum Control {
     Runs(usize),
